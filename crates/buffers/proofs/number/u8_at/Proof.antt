@@ -1,0 +1,21 @@
+-- `u8_at` meets its contract.
+-- Assumes nothing.
+use mathlib.Core.Path.{sym}
+use native.Mathlib.Omega.{arith}
+use denote.Ref.{now}
+use Rattle.buffers.proofs.Bytes.{number-none, number-one}
+use borrow.Author.Needs.{needs}
+use Rattle.buffers.proofs.number.u8_at.Statement.{statement}
+use Rattle.buffers.proofs.number.u8_at.Tie as tie
+
+returns : tie.Need-returns
+returns c = sym (number-none 1 (now (c .before .args .b)) (c .before .args .at) (omega arith))
+
+shared-slice-read-result : tie.Need-shared-slice-read-result
+shared-slice-read-result c = search needs
+
+returns-2 : tie.Need-returns-2
+returns-2 c = sym (number-one (now (c .before .before .args .b)) (c .before .before .args .at) (omega arith))
+
+pub u8-at-spec : {M : Type 1} → statement M
+u8-at-spec = tie.close (tie.spec returns shared-slice-read-result returns-2)

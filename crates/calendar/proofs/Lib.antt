@@ -1,0 +1,4 @@
+pub mod Moved
+pub mod Ages
+pub mod YearsAhead
+pub mod Figures

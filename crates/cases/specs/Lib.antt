@@ -1,0 +1,5 @@
+pub mod Layout
+pub mod Block
+pub mod Refusals
+pub mod Form
+pub mod Reading

@@ -1,0 +1,42 @@
+-- A row of factors: what a table's columns are, whether a row was found, and how large its factors may be.
+-- Assumes nothing.
+use Prim.Native.Nat.{ℕ, _≤_}
+use mathlib.Core.Bool.{Bool, true, false}
+use mathlib.Core.List.{List}
+use lib.ListN.{getD}
+use Rattle.factors.specs.declared.Factors.{Factors}
+use Rattle.factors.specs.declared.Row.{Row}
+use Rattle.factors.specs.declared.Row.the-variants.{Found, Absent}
+
+-- the factors of a row of 001: A pension, B lump sum, C survivor, E deduction
+abbrev pub ofFour : List ℕ → Factors
+ofFour row =
+    record {
+      pension = getD row 0 0;
+      lump = getD row 1 0;
+      survivor = getD row 2 0;
+      deduction = getD row 3 0;
+    }
+
+-- the factors of a row of 003: A pension, B survivor
+abbrev pub ofTwo : List ℕ → Factors
+ofTwo row = record { pension = getD row 0 0; lump = 0; survivor = getD row 1 0; deduction = 0 }
+
+abbrev pub noFactors : Factors
+noFactors = record { pension = 0; lump = 0; survivor = 0; deduction = 0 }
+
+abbrev pub absent : Row → Bool
+absent (Found f) = false
+absent Absent = true
+
+-- the factors found; zero where there is no row
+abbrev pub found : Row → Factors
+found (Found f) = f
+found Absent = noFactors
+
+-- no factor is above 99.99
+pub record Small (f : Factors) : Type 0 where
+  pub pension : f .pension ≤ 9999
+  pub lump : f .lump ≤ 9999
+  pub survivor : f .survivor ≤ 9999
+  pub deduction : f .deduction ≤ 9999

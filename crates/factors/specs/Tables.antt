@@ -1,0 +1,121 @@
+-- The factor tables of the notes, as lists of rows in hundredths, and the row that a key finds.
+-- Assumes nothing.
+use Prim.Native.Nat.{ℕ, _+_, _-_}
+use mathlib.Core.Bool.{cond, _&&_}
+use mathlib.Core.List.{List, [], _∷_}
+use lib.Dec.{leb, ltb}
+use lib.ListN.{length, getD}
+use Rattle.factors.specs.declared.Factors.{Factors}
+use Rattle.factors.specs.declared.Row.{Row}
+use Rattle.factors.specs.declared.Row.the-variants.{Found, Absent}
+use Rattle.factors.specs.Rows.{ofFour, ofTwo}
+
+-- Table TV1 of 001, by age from 22: A pension, B lump sum, C survivor, E deduction.
+-- The text of 001 speaks of age 20; the table decides. TV2 has the same figures, the factors being unisex, and is
+-- not a second table.
+unfoldable pub section1995 : List (List ℕ)
+section1995 =
+    (893 ∷ 41 ∷ 84 ∷ 518 ∷ []) ∷
+    (913 ∷ 42 ∷ 86 ∷ 532 ∷ []) ∷
+    (933 ∷ 43 ∷ 88 ∷ 546 ∷ []) ∷
+    (953 ∷ 44 ∷ 91 ∷ 561 ∷ []) ∷
+    (974 ∷ 45 ∷ 93 ∷ 577 ∷ []) ∷
+    (995 ∷ 46 ∷ 95 ∷ 592 ∷ []) ∷
+    (1016 ∷ 47 ∷ 97 ∷ 608 ∷ []) ∷
+    (1038 ∷ 49 ∷ 99 ∷ 625 ∷ []) ∷
+    (1061 ∷ 50 ∷ 101 ∷ 642 ∷ []) ∷
+    (1084 ∷ 51 ∷ 104 ∷ 660 ∷ []) ∷
+    (1108 ∷ 52 ∷ 106 ∷ 678 ∷ []) ∷
+    (1132 ∷ 53 ∷ 108 ∷ 696 ∷ []) ∷
+    (1157 ∷ 55 ∷ 110 ∷ 715 ∷ []) ∷
+    (1182 ∷ 56 ∷ 113 ∷ 735 ∷ []) ∷
+    (1208 ∷ 57 ∷ 115 ∷ 755 ∷ []) ∷
+    (1234 ∷ 59 ∷ 117 ∷ 776 ∷ []) ∷
+    (1262 ∷ 60 ∷ 119 ∷ 797 ∷ []) ∷
+    (1290 ∷ 62 ∷ 121 ∷ 819 ∷ []) ∷
+    (1318 ∷ 63 ∷ 124 ∷ 842 ∷ []) ∷
+    (1347 ∷ 64 ∷ 126 ∷ 865 ∷ []) ∷
+    (1377 ∷ 66 ∷ 128 ∷ 890 ∷ []) ∷
+    (1408 ∷ 68 ∷ 130 ∷ 914 ∷ []) ∷
+    (1440 ∷ 69 ∷ 132 ∷ 940 ∷ []) ∷
+    (1472 ∷ 71 ∷ 134 ∷ 966 ∷ []) ∷
+    (1505 ∷ 73 ∷ 136 ∷ 993 ∷ []) ∷
+    (1539 ∷ 74 ∷ 138 ∷ 1021 ∷ []) ∷
+    (1574 ∷ 76 ∷ 140 ∷ 1049 ∷ []) ∷
+    (1610 ∷ 78 ∷ 141 ∷ 1079 ∷ []) ∷
+    (1647 ∷ 80 ∷ 143 ∷ 1109 ∷ []) ∷
+    (1685 ∷ 82 ∷ 145 ∷ 1141 ∷ []) ∷
+    (1724 ∷ 84 ∷ 147 ∷ 1173 ∷ []) ∷
+    (1764 ∷ 86 ∷ 148 ∷ 1207 ∷ []) ∷
+    (1805 ∷ 88 ∷ 150 ∷ 1242 ∷ []) ∷
+    (1848 ∷ 90 ∷ 151 ∷ 1278 ∷ []) ∷
+    (1892 ∷ 92 ∷ 152 ∷ 1316 ∷ []) ∷
+    (1938 ∷ 94 ∷ 153 ∷ 1354 ∷ []) ∷
+    (1985 ∷ 97 ∷ 154 ∷ 1395 ∷ []) ∷
+    (2034 ∷ 99 ∷ 154 ∷ 1437 ∷ []) ∷ []
+
+-- Table TV1 of 003, by years ahead from 1: A pension, B survivor.
+unfoldable pub scheme2015 : List (List ℕ)
+scheme2015 =
+    (1708 ∷ 160 ∷ []) ∷
+    (1665 ∷ 160 ∷ []) ∷
+    (1624 ∷ 160 ∷ []) ∷
+    (1572 ∷ 161 ∷ []) ∷
+    (1522 ∷ 161 ∷ []) ∷
+    (1474 ∷ 161 ∷ []) ∷
+    (1427 ∷ 161 ∷ []) ∷
+    (1394 ∷ 160 ∷ []) ∷
+    (1362 ∷ 159 ∷ []) ∷
+    (1331 ∷ 158 ∷ []) ∷
+    (1301 ∷ 157 ∷ []) ∷
+    (1272 ∷ 156 ∷ []) ∷
+    (1244 ∷ 154 ∷ []) ∷
+    (1217 ∷ 152 ∷ []) ∷
+    (1190 ∷ 151 ∷ []) ∷
+    (1164 ∷ 149 ∷ []) ∷
+    (1139 ∷ 147 ∷ []) ∷
+    (1115 ∷ 145 ∷ []) ∷
+    (1091 ∷ 143 ∷ []) ∷
+    (1068 ∷ 141 ∷ []) ∷
+    (1045 ∷ 139 ∷ []) ∷
+    (1014 ∷ 138 ∷ []) ∷
+    (984 ∷ 136 ∷ []) ∷
+    (955 ∷ 135 ∷ []) ∷
+    (927 ∷ 133 ∷ []) ∷
+    (908 ∷ 131 ∷ []) ∷
+    (889 ∷ 129 ∷ []) ∷
+    (871 ∷ 127 ∷ []) ∷
+    (853 ∷ 125 ∷ []) ∷
+    (835 ∷ 122 ∷ []) ∷
+    (818 ∷ 120 ∷ []) ∷
+    (801 ∷ 118 ∷ []) ∷
+    (785 ∷ 115 ∷ []) ∷
+    (769 ∷ 113 ∷ []) ∷
+    (753 ∷ 110 ∷ []) ∷
+    (737 ∷ 108 ∷ []) ∷
+    (722 ∷ 106 ∷ []) ∷
+    (708 ∷ 103 ∷ []) ∷
+    (693 ∷ 101 ∷ []) ∷
+    (679 ∷ 99 ∷ []) ∷
+    (665 ∷ 97 ∷ []) ∷
+    (652 ∷ 94 ∷ []) ∷
+    (639 ∷ 92 ∷ []) ∷
+    (626 ∷ 90 ∷ []) ∷
+    (613 ∷ 88 ∷ []) ∷
+    (600 ∷ 86 ∷ []) ∷
+    (588 ∷ 84 ∷ []) ∷
+    (576 ∷ 82 ∷ []) ∷
+    (564 ∷ 80 ∷ []) ∷
+    (553 ∷ 75 ∷ []) ∷ []
+
+-- What a key finds in a table whose first row is for the key `first`; `factors` says which factor each column is.
+-- There is no row below the first nor past the last.
+unfoldable pub rowAt : (List ℕ → Factors) → ℕ → List (List ℕ) → ℕ → Row
+rowAt factors first table key =
+    cond (leb first key && ltb key (first + length table)) (Found (factors (getD table (key - first) []))) Absent
+
+unfoldable pub byAge : ℕ → Row
+byAge age = rowAt ofFour 22 section1995 age
+
+unfoldable pub byYears : ℕ → Row
+byYears years = rowAt ofTwo 1 scheme2015 years

@@ -1,0 +1,4 @@
+pub mod Rounding
+pub mod Below
+pub mod Turning
+pub mod Tests
