@@ -1,0 +1,35 @@
+-- What is known where refusals 13 and 14 do not apply: each debit is covered, and the total is not below zero.
+-- Assumes nothing.
+use Prim.Native.Nat.{ℕ, _≤_, _<_}
+use mathlib.Core.Bool.{false}
+use mathlib.Core.Path.{_≡_}
+use native.Mathlib.Omega.{arith}
+use borrow.Author.Tests.{ltb-false}
+use Rattle.numbers.proofs.Below.{any-false}
+use Rattle.numbers.proofs.Tests.{or-false}
+use Rattle.cases.specs.Form.{line}
+use Rattle.cases.specs.declared.Line.{Line}
+use Rattle.cases.specs.declared.Case.{Case}
+use Rattle.factors.specs.declared.Factors.{Factors}
+use Rattle.sums.specs.Sum.{Benefit, memberPension, lumpSum, survivorPension, entered, revalued, debitOn, exceeds, excessAt, excessDebit, deduction, credit, negative}
+
+pub covered :
+    (c : Case) → excessDebit c ≡ false → (j : ℕ) → j < 4 → (b : Benefit) →
+    debitOn b (line c j) ≤ revalued (c .revaluation) (entered b (line c j))
+unfolding excessDebit
+covered c e j h = go (or-false (exceeds v l memberPension) (exceeds v l lumpSum) (any-false 4 (λ i. excessAt v (line c i)) e j h))
+  where
+    v : ℕ
+    v = c .revaluation
+
+    l : Line
+    l = line c j
+
+    go : (exceeds v l memberPension ≡ false) × (exceeds v l lumpSum ≡ false) → (b : Benefit) → debitOn b l ≤ revalued v (entered b l)
+    go both memberPension = ltb-false _ _ (both .0)
+    go both lumpSum = ltb-false _ _ (both .1)
+    go both survivorPension = omega arith
+
+pub not-negative : (f : ℕ → Factors) (c : Case) → negative f c ≡ false → deduction f c ≤ credit f c
+unfolding negative
+not-negative f c e = ltb-false _ _ e

@@ -1,0 +1,8 @@
+pub mod Ranges
+pub mod Signed
+pub mod Carried
+pub mod Settled
+pub mod Stages
+pub mod Acceptance
+pub mod Comparison
+pub mod Figures

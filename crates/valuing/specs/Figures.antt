@@ -1,0 +1,126 @@
+-- The figures at the edges that are proved: nine rows, what the definitions work out beside what 01 states.
+-- Assumes nothing.
+use Prim.Native.Nat.{ℕ, _-_}
+use mathlib.Core.List.{List, [], _∷_}
+use Rattle.calendar.specs.Moving.{age, yearsAhead}
+use Rattle.calendar.specs.declared.Date.{Date}
+use Rattle.cases.specs.Block.{lineBy}
+use Rattle.cases.specs.Form.{line}
+use Rattle.cases.specs.Refusals.{numberOf}
+use Rattle.cases.specs.declared.Line.{Line}
+use Rattle.cases.specs.declared.Case.{Case}
+use Rattle.sums.specs.Rows.{ageOf, factorsOf}
+use Rattle.sums.specs.Sum.{Benefit, memberPension, survivorPension, revalued, reduced, factor, credit, deduction}
+use Rattle.valuing.specs.declared.Outcome.{Outcome}
+use Rattle.valuing.specs.declared.Outcome.the-variants.{Paid, Refused}
+use Rattle.valuing.specs.Answer.{grossOf, answerOf}
+
+-- what a row shows: numbers; of a case that is paid its gross value and payment in pence, of another the refusal's number
+pub data Shown : Type 0 where
+  number : ℕ → Shown
+  paid : ℕ → ℕ → Shown
+  refused : ℕ → Shown
+
+abbrev pub outcomeShown : Case → Outcome → Shown
+outcomeShown c (Paid items) = paid (grossOf c) (items .payment)
+outcomeShown c (Refused r) = refused (numberOf r)
+
+-- valuing's answer to a case
+abbrev pub answered : Case → Shown
+answered c = outcomeShown c (answerOf c)
+
+-- the signed total of step 4 before its rounding, in hundredths of a penny
+abbrev pub totalOf : Case → Shown
+totalOf c = number (credit (factorsOf c) c - deduction (factorsOf c) c)
+
+-- on line 1, a benefit's revalued amount in pence and its factor in hundredths
+abbrev pub amountOf : Benefit → Case → Shown
+amountOf b c = number (reduced (c .revaluation) (line c 0) b)
+
+abbrev pub factorOf : Benefit → Case → Shown
+factorOf b c = number (factor b (factorsOf c 0))
+
+-- day, month, year
+abbrev pub date : ℕ → ℕ → ℕ → Date
+date d m y = record { year = y; month = m; day = d }
+
+-- a deferred member with one line, who asks for a transfer to a defined benefit scheme
+abbrev pub member : ℕ → Date → Date → Date → ℕ → Line → Case
+member kind birth leaving guarantee revaluation first =
+    let none : Line = lineBy (λ e. 0) 0 in
+    record {
+      kind = kind;
+      number = 1;
+      status = 1;
+      receiver = 1;
+      flags = 0;
+      count = 1;
+      service = 3;
+      birth = birth;
+      leaving = leaving;
+      guarantee = guarantee;
+      «state_pension» = date 0 0 0;
+      revaluation = revaluation;
+      avc = 0;
+      transfer = 0;
+      contributions = 0;
+      lines = first ∷ none ∷ none ∷ none ∷ [];
+    }
+
+-- a line in the block's order: date, pension, additional pension, survivor's pension, dependant's additional pension,
+-- lump sum, modification, debit; no lump sum debit
+abbrev pub lineOf : Date → ℕ → ℕ → ℕ → ℕ → ℕ → ℕ → ℕ → Line
+lineOf date pension additional survivor dependant lump modification debit =
+    record {
+      date = date;
+      pension = pension;
+      additional = additional;
+      survivor = survivor;
+      dependant = dependant;
+      lump = lump;
+      modification = modification;
+      debit = debit;
+      «lump_debit» = 0;
+    }
+
+-- Example A of 001
+abbrev pub exampleA : Case
+exampleA =
+    member 1 (date 1 6 1967) (date 1 4 2012) (date 1 2 2020) 11400
+    (lineOf (date 0 0 0) 500000 100000 250000 37500 1500000 2000 0)
+
+-- Example C of 003
+abbrev pub exampleC : Case
+exampleC =
+    member 2 (date 1 11 1952) (date 1 11 2015) (date 1 2 2016) 10496
+    (lineOf (date 1 11 2017) 350000 0 118125 0 0 0 0)
+
+-- kind 1, age 54, no revaluation: a pension, a survivor's pension, a modification and a debit
+abbrev pub aged54 : ℕ → ℕ → ℕ → ℕ → Case
+aged54 pension survivor modification debit =
+    member 1 (date 1 6 1967) (date 1 4 2012) (date 1 6 2021) 10000
+    (lineOf (date 0 0 0) pension 0 survivor 0 0 modification debit)
+
+-- one row: what is worked out, and what is stated
+pub record Figure : Type 0 where
+  pub worked : List Shown
+  pub stated : List Shown
+
+infix 4 _is_
+abbrev pub _is_ : List Shown → List Shown → Figure
+_is_ w s = record { worked = w; stated = s }
+
+abbrev pub figures : List Figure
+figures =
+    (number (revalued 10660 84375) ∷ [] is number 89944 ∷ []) ∷
+    (number (revalued 15000 1) ∷ [] is number 2 ∷ []) ∷
+    (totalOf exampleA ∷ answered exampleA ∷ [] is number 1368689250 ∷ paid 13686893 13686900 ∷ []) ∷
+    (amountOf memberPension exampleC ∷ factorOf memberPension exampleC ∷
+    amountOf survivorPension exampleC ∷ factorOf survivorPension exampleC ∷ answered exampleC ∷ []
+    is number 367360 ∷ number 1665 ∷ number 123984 ∷ number 160 ∷ paid 6314918 6314918 ∷ []) ∷
+    (number (ageOf (aged54 10 1 0 0)) ∷ answered (aged54 10 1 0 0) ∷ [] is number 54 ∷ paid 182 200 ∷ []) ∷
+    (answered (aged54 100 0 0 100) ∷ answered (aged54 100 0 0 101) ∷ [] is paid 0 0 ∷ refused 13 ∷ []) ∷
+    (answered (aged54 0 0 1 0) ∷ [] is refused 14 ∷ []) ∷
+    (number (age (date 1 6 1967) (date 31 5 2020)) ∷ number (age (date 1 6 1967) (date 1 6 2020)) ∷ [] is number 52 ∷ number 53 ∷ []) ∷
+    (number (yearsAhead (date 3 7 2021) (date 3 7 2047)) ∷ number (yearsAhead (date 3 7 2021) (date 4 7 2047)) ∷ []
+    is number 26 ∷ number 27 ∷ []) ∷ []

@@ -1,0 +1,6 @@
+pub mod Totals
+pub mod Answer
+pub mod Entries
+pub mod Compare
+pub mod Figures
+pub mod Block

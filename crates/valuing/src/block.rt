@@ -1,0 +1,27 @@
+// Reading a block and valuing its case.
+ghost use mathlib.Core.Path.{_≡_};
+ghost use Rattle.valuing.specs.Block.{blockAnswer};
+use crate::Answer;
+use crate::Outcome;
+use crate::value;
+use cases::Verdict;
+use cases::read_block;
+
+// The answer to a block of any length: reading's refusal, or what valuing answers to the case that it holds.
+pub fn value_block(b: &[u8]) -> Answer
+    ensures { λ r. ⌜ r ≡ blockAnswer (now (b .entry)) ⌝ }
+{
+    let reading = read_block(b);
+    let verdict = reading.verdict;
+    let case = reading.case;
+    match verdict {
+        Verdict::Refused(why) => Answer {
+            number: 0,
+            outcome: Outcome::Refused(why),
+        },
+        Verdict::Accepted => Answer {
+            number: case.number,
+            outcome: value(case),
+        },
+    }
+}

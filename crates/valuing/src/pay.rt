@@ -1,0 +1,65 @@
+// Steps 5 and 6 of the sum, and the items.
+ghost use mathlib.Core.Path.{_≡_};
+ghost use mathlib.Core.Bool.{cond, false};
+ghost use Prim.Native.Nat.{_<_, _^_, max};
+ghost use Rattle.cases.specs.Form.{rangeFault};
+ghost use Rattle.cases.specs.declared.Refusal.the-variants.{Negative};
+ghost use Rattle.sums.specs.Rows.{factorsOf};
+ghost use Rattle.sums.specs.Sum.{negative};
+ghost use Rattle.sums.specs.Payment as payment;
+ghost use Rattle.valuing.specs.Answer.{itemsOf};
+ghost use Rattle.valuing.specs.Totals.{TotalsBelow};
+use crate::Items;
+use crate::Outcome;
+use crate::sum::Rest;
+use crate::sum::Totals;
+use crate::sum::take_off;
+use cases::Case;
+use cases::Refusal;
+
+fn underpin(c: Case) -> u64
+    requires { ⌜ rangeFault c ≡ false ⌝ }
+    ensures { λ r. ⌜ r ≡ payment.underpin c ⌝ }
+{
+    if c.flags % 2 == 1 {
+        c.transfer + c.contributions
+    } else {
+        0
+    }
+}
+
+fn larger(a: u64, b: u64) -> u64
+    ensures { λ r. ⌜ r ≡ max a b ⌝ }
+{
+    if a < b { b } else { a }
+}
+
+fn pay(c: Case, gross: u64) -> u64
+    requires { ⌜ (rangeFault c ≡ false) × (gross < 2 ^ 62) ⌝ }
+    ensures { λ r. ⌜ r ≡ payment.payment c gross ⌝ }
+{
+    if c.kind == 1 {
+        numbers::nearest(gross, 100) * 100 + c.avc
+    } else {
+        larger(gross, underpin(c)) + c.avc
+    }
+}
+
+// The payment with its items, or refusal 14.
+pub(crate) fn priced(c: Case, t: Totals) -> Outcome
+    requires { ⌜ (rangeFault c ≡ false) × TotalsBelow c 4 t ⌝ }
+    ensures { λ r. ⌜ r ≡ cond (negative (factorsOf c) c) (Outcome.Refused Negative) (Outcome.Paid (itemsOf c)) ⌝ }
+{
+    match take_off(t.pension + t.lump + t.survivor, t.deduction) {
+        Rest::Below => Outcome::Refused(Refusal::Negative),
+        Rest::Left(total) => Outcome::Paid(Items {
+            payment: pay(c, numbers::nearest(total, 100)),
+            pension: t.pension,
+            lump: t.lump,
+            survivor: t.survivor,
+            deduction: t.deduction,
+            underpin: underpin(c),
+            avc: c.avc,
+        }),
+    }
+}

@@ -1,0 +1,176 @@
+// Steps 1 to 4 of the sum.
+ghost use mathlib.Core.Path.{_≡_};
+ghost use mathlib.Core.Bool.{false};
+ghost use Prim.Native.Nat.{_+_, _-_, _*_, _<_, _≤_, _^_};
+ghost use lib.Dec.{ltb};
+ghost use Rattle.cases.specs.Form.{rangeFault};
+ghost use Rattle.factors.specs.Rows.{absent, found, Small};
+ghost use Rattle.sums.specs.Sum.{revalued};
+ghost use Rattle.valuing.specs.Totals.{LineInRange, rowFor, TotalsAt, TotalsBelow, Bounded, plusTotals, restOf};
+use calendar::Date;
+use cases::Case;
+use cases::Line;
+use factors::Factors;
+use factors::Row;
+
+// Items and deduction in hundredths of a penny, whether a row is absent, and whether a debit exceeds what it reduces.
+pub(crate) struct Totals {
+    pub pension: u64,
+    pub lump: u64,
+    pub survivor: u64,
+    pub deduction: u64,
+    pub absent: bool,
+    pub excess: bool,
+}
+
+// What is left of a total when the deduction is taken off, or that it is below zero.
+pub(crate) enum Rest {
+    Left(u64),
+    Below,
+}
+
+// A benefit of a line: its item, and whether its debit exceeds the revalued amount.
+struct Item {
+    pub amount: u64,
+    pub excess: bool,
+}
+
+// The row for line i of a case.
+fn row_for(kind: u16, count: u8, i: u8, age: u16, ahead: u32) -> Row
+    ensures { λ r. ⌜ r ≡ rowFor kind count i age ahead ⌝ }
+{
+    if count <= i {
+        return Row::Found(Factors {
+            pension: 0,
+            lump: 0,
+            survivor: 0,
+            deduction: 0,
+        });
+    }
+    if kind == 1 {
+        factors::by_age(age)
+    } else {
+        factors::by_years(ahead)
+    }
+}
+
+fn is_absent(row: Row) -> bool
+    ensures { λ r. ⌜ r ≡ absent row ⌝ }
+{
+    match row {
+        Row::Found(_) => false,
+        Row::Absent => true,
+    }
+}
+
+// The factors of a row, zero where it is absent.
+fn found_or_zero(row: Row) -> Factors
+    ensures { λ r. ⌜ r ≡ found row ⌝ }
+{
+    match row {
+        Row::Found(f) => f,
+        Row::Absent => Factors {
+            pension: 0,
+            lump: 0,
+            survivor: 0,
+            deduction: 0,
+        },
+    }
+}
+
+// Pence times a factor in ten-thousandths, to the penny.
+fn revalue(x: u64, v: u32) -> u64
+    requires { ⌜ (x ≤ 2000000000) × (v ≤ 100000) ⌝ }
+    ensures { λ r. ⌜ (r ≡ revalued v x) × (r ≤ 20000000000) ⌝ }
+{
+    numbers::nearest(x * (v as u64), 10000)
+}
+
+fn item_of(entered: u64, debit: u64, v: u32, factor: u64) -> Item
+    requires { ⌜ (entered ≤ 2000000000) × (v ≤ 100000) × (factor ≤ 9999) ⌝ }
+    ensures { λ r. ⌜ (r .amount ≡ (revalued v entered - debit) * factor) × (r .excess ≡ ltb (revalued v entered) debit) × (r .amount ≤ 200000000000000) ⌝ }
+{
+    let revalued = revalue(entered, v);
+    if revalued < debit {
+        Item {
+            amount: 0,
+            excess: true,
+        }
+    } else {
+        Item {
+            amount: (revalued - debit) * factor,
+            excess: false,
+        }
+    }
+}
+
+// The totals of one line.
+fn line_totals(l: Line, v: u32, f: Factors, missing: bool) -> Totals
+    requires { ⌜ LineInRange l × (v ≤ 100000) × Small f ⌝ }
+    ensures { λ r. ⌜ TotalsAt v f l missing r ⌝ }
+{
+    let pension = item_of(l.pension + l.additional, l.debit, v, f.pension);
+    let lump = item_of(l.lump, l.lump_debit, v, f.lump);
+    let survivor = item_of(l.survivor + l.dependant, 0, v, f.survivor);
+    Totals {
+        pension: pension.amount,
+        lump: lump.amount,
+        survivor: survivor.amount,
+        deduction: l.modification * f.deduction,
+        absent: missing,
+        excess: pension.excess | lump.excess,
+    }
+}
+
+fn plus(a: Totals, b: Totals) -> Totals
+    requires { ⌜ Bounded 600000000000000 a × Bounded 200000000000000 b ⌝ }
+    ensures { λ r. ⌜ r ≡ plusTotals a b ⌝ }
+{
+    Totals {
+        pension: a.pension + b.pension,
+        lump: a.lump + b.lump,
+        survivor: a.survivor + b.survivor,
+        deduction: a.deduction + b.deduction,
+        absent: a.absent | b.absent,
+        excess: a.excess | b.excess,
+    }
+}
+
+// The totals over all lines.
+pub(crate) fn case_totals(c: Case) -> Totals
+    requires { ⌜ rangeFault c ≡ false ⌝ }
+    ensures { λ r. ⌜ TotalsBelow c 4 r ⌝ }
+{
+    let age = calendar::age(c.birth, c.guarantee);
+    let mut sum = Totals {
+        pension: 0,
+        lump: 0,
+        survivor: 0,
+        deduction: 0,
+        absent: false,
+        excess: false,
+    };
+    let mut i: u8 = 0;
+    while i < 4 {
+        let k = i as usize;
+        let l = c.lines[k];
+        let ahead = calendar::years_ahead(c.guarantee, l.date);
+        let row = row_for(c.kind, c.count, i, age, ahead);
+        let line = line_totals(l, c.revaluation, found_or_zero(row), is_absent(row));
+        sum = plus(sum, line);
+        i += 1;
+    }
+    sum
+}
+
+// The signed total of what is added and what is taken off.
+pub(crate) fn take_off(credit: u64, deduction: u64) -> Rest
+    requires { ⌜ (credit < 2 ^ 62) × (deduction < 2 ^ 62) ⌝ }
+    ensures { λ r. ⌜ r ≡ restOf credit deduction ⌝ }
+{
+    let total: i64 = (credit as i64) - (deduction as i64);
+    if total < 0 {
+        return Rest::Below;
+    }
+    Rest::Left(total as u64)
+}
