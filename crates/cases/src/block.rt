@@ -11,6 +11,7 @@ use crate::Line;
 use crate::Reading;
 use crate::Refusal;
 use crate::Verdict;
+use crate::check::checksum;
 use crate::form::form_verdict;
 use crate::form::kind_fault;
 use crate::refusals::refuse_if;
@@ -114,26 +115,6 @@ fn zero_case() -> Case
         contributions: 0,
         lines: lines,
     }
-}
-
-fn widened(x: u8) -> u32
-    ensures { λ r. ⌜ (r ≡ x) × (r ≤ 255) ⌝ }
-{
-    x as u32
-}
-
-// The sum of (position + 1) times the byte over the first 508 bytes.
-fn checksum(b: &[u8]) -> u32
-    requires { ⌜ 508 ≤ length (now b) ⌝ }
-    ensures { λ r. ⌜ r ≡ block.checksum (now (b .entry)) ⌝ }
-{
-    let mut sum: u32 = 0;
-    let mut i: u32 = 0;
-    while i < 508 {
-        sum += (i + 1) * widened(b[i as usize]);
-        i += 1;
-    }
-    sum
 }
 
 // Whether one of the n bytes from an index on is not zero.

@@ -1,5 +1,6 @@
 // The case of a member who leaves, the refusals, and reading a case from its block.
 mod block;
+mod check;
 mod form;
 mod lines;
 mod refusals;
