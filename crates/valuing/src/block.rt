@@ -3,11 +3,12 @@ ghost use mathlib.Core.Path.{_≡_};
 ghost use Rattle.valuing.specs.Block.{blockAnswer};
 use crate::Answer;
 use crate::Outcome;
-use crate::value;
+use crate::valuation::value_sound;
 use cases::Verdict;
 use cases::read_block;
 
-// The answer to a block of any length: reading's refusal, or what valuing answers to the case that it holds.
+// The answer to a block of any length: reading's refusal, or what valuing answers to the case that it holds. Reading has
+// already asked refusals 3, 4 and 5 of that case.
 pub fn value_block(b: &[u8]) -> Answer
     ensures { λ r. ⌜ r ≡ blockAnswer (now (b .entry)) ⌝ }
 {
@@ -21,7 +22,7 @@ pub fn value_block(b: &[u8]) -> Answer
         },
         Verdict::Accepted => Answer {
             number: case.number,
-            outcome: value(case),
+            outcome: value_sound(case),
         },
     }
 }

@@ -18,7 +18,7 @@ use cases::form_verdict;
 use cases::refuse_if;
 
 // Refusals 6 to 14 of a case to which 3, 4 and 5 do not apply.
-fn value_sound(c: Case) -> Outcome
+pub(crate) fn value_sound(c: Case) -> Outcome
     requires { ⌜ formVerdict c ≡ Accepted ⌝ }
     ensures { λ r. ⌜ r ≡ answerOf c ⌝ }
 {
