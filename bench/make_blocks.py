@@ -1,0 +1,46 @@
+#!/usr/bin/env python3
+"""Writes a case file of N blocks to standard output, the same for the same N: payable cases of both kinds with one to
+four lines, and one in ten refused.
+
+    make_blocks.py N
+"""
+import struct
+import sys
+
+
+def date(year, month, day):
+    return struct.pack("<HBB", year, month, day)
+
+
+def block(i):
+    b = bytearray(512)
+    kind = 1 + i % 2
+    count = 1 if kind == 1 else 1 + i // 2 % 4
+    struct.pack_into("<H2xIBBBBH", b, 0, kind, i + 1, 1, 1, 0, count, 3 + i % 400)
+    b[16:20] = date(1962 + i % 30, 1 + i % 12, 1 + i % 28)
+    b[20:24] = date(2012 + i % 6, 3, 31)
+    b[24:28] = date(2019 + i % 2, 1 + i % 12, 1 + i % 28)
+    struct.pack_into("<I", b, 32, 10000 + i % 3000)
+    struct.pack_into("<Q", b, 40, i % 5 * 12345)
+    for k in range(count):
+        at = 64 + 72 * k
+        if kind == 2:
+            b[at:at + 4] = date(1962 + i % 30 + 68 - k, 1 + i % 12, 1 + i % 28)
+        struct.pack_into("<Q", b, at + 8, 100000 + i * 7 % 900000)
+        struct.pack_into("<Q", b, at + 24, 33750 + i * 3 % 300000)
+        if kind == 1:
+            struct.pack_into("<QQ", b, at + 40, 300000 + i % 100000, i % 7 * 10)
+        struct.pack_into("<Q", b, at + 56, i % 1000)
+    if i % 10 == 9:
+        b[8] = 1 + i // 10 % 5
+    struct.pack_into("<I", b, 508, sum((p + 1) * x for p, x in enumerate(b[:352])))
+    return bytes(b)
+
+
+def main():
+    write = sys.stdout.buffer.write
+    for i in range(int(sys.argv[1])):
+        write(block(i))
+
+
+main()

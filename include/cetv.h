@@ -1,0 +1,99 @@
+/* Cash equivalents (transfer values) of the Scottish health service pension
+ * scheme: the 1995 section with pension age 60 (kind 1) and the 2015 scheme
+ * (kind 2). Link with libcetv.a; nothing else is needed.
+ *
+ * A case is a block of 512 bytes. Numbers are unsigned, low byte first; money
+ * is in pence; a date is a 16-bit year, a byte month, a byte day.
+ *
+ *   offset  bytes  field
+ *        0      2  kind: 1 or 2
+ *        4      4  case number, 1 or more
+ *        8      1  status: 1 deferred, 2 active, 3 pensioner, 4 pension credit
+ *        9      1  receiving scheme: 1 defined benefit, 2 defined contribution,
+ *                  3 overseas
+ *       10      1  flags: 1 transferred in, 2 has a guaranteed minimum pension
+ *       11      1  count of lines: 1 in kind 1, 1 to 4 in kind 2
+ *       12      2  complete months of qualifying service
+ *       16      4  date of birth
+ *       20      4  date of leaving
+ *       24      4  guarantee date
+ *       28      4  state pension date, zero without flag 2
+ *       32      4  revaluation factor in ten-thousandths, 10,000 to 100,000
+ *       40      8  voluntary fund (AVC)
+ *       48      8  transfer-in payment, zero without flag 1
+ *       56      8  own contributions
+ *       64     72  line 1, and at 136, 208 and 280 lines 2 to 4:
+ *                    0 pension date, 8 pension, 16 additional pension,
+ *                    24 survivor's pension, 32 dependant's additional pension,
+ *                    40 lump sum, 48 insurance modification, 56 pension debit,
+ *                    64 lump sum debit, 8 bytes each but the date
+ *      508      4  check: the sum over bytes 0 to 507 of (position + 1) times
+ *                  the byte
+ *
+ * Amounts go to 1,000,000,000 pence. Every byte that no field names is zero.
+ */
+#ifndef CETV_H
+#define CETV_H
+
+#include <stddef.h>
+#include <stdint.h>
+
+#ifdef __cplusplus
+extern "C" {
+#endif
+
+/* The size of a block, and the least number of bytes to lend for a line. No
+ * line is longer. */
+#define CETV_BLOCK_SIZE 512
+#define CETV_LINE_SIZE 256
+
+/* The refusals, by the number that a line gives, with their names there. The
+ * first that applies is given. */
+enum cetv_refusal {
+    CETV_LENGTH = 1,    /* length: the block is not 512 bytes */
+    CETV_CHECK = 2,     /* check: the check differs */
+    CETV_KIND = 3,      /* kind: not 1 or 2, or a count its kind doesn't allow */
+    CETV_RESERVED = 4,  /* reserved: something that must be zero is not */
+    CETV_RANGE = 5,     /* range: a number, code or date out of its range */
+    CETV_DATES = 6,     /* dates: dates in an order that cannot be */
+    CETV_STATUS = 7,    /* status: not deferred */
+    CETV_RECEIVER = 8,  /* receiver: not a defined benefit scheme */
+    CETV_SERVICE = 9,   /* service: under 3 months */
+    CETV_REFER = 10,    /* refer: GMP, state pension date before 6 April 2016 */
+    CETV_AGE = 11,      /* age: pension age reached */
+    CETV_FACTOR = 12,   /* factor: the tables have no row */
+    CETV_DEBIT = 13,    /* debit: above the revalued amount it reduces */
+    CETV_NEGATIVE = 14, /* negative: the total is below zero */
+    CETV_BUFFER = 15    /* buffer: fewer than 256 bytes lent (the answer is 0) */
+};
+
+/* Values one block and forms its line at the start of out.
+ *
+ *   block, block_len  the block; any bytes of any length
+ *   place             the number that the line starts with, printed as given
+ *   out, out_len      the result buffer
+ *
+ * The answer is the line's length, its line feed included; bytes of out past
+ * it keep their contents. The line is not ended by a zero byte. The answer is
+ * 0 where out_len is below 256 (refusal 15), and then no byte of out changes.
+ * The line is one of
+ *
+ *   PLACE CASE pay P pension A lump B survivor C deduct D underpin U avc V\n
+ *   PLACE CASE refused NUMBER NAME\n
+ *
+ * with P, U and V in pounds with two decimals, A to D in pounds with four, and
+ * CASE 0 where the block itself could not be read (refusals 1 to 5).
+ *
+ * A length of 0 with any pointer, NULL too, is an empty block or buffer. With
+ * any other length the pointer must be good for so many bytes: block for
+ * reading, out for writing. The two must not overlap. Nothing else is asked of
+ * the caller, nothing is kept between calls, and calls in several threads do
+ * not meet. */
+size_t cetv_value_block(const uint8_t *block, size_t block_len, uint32_t place,
+                        uint8_t *out, size_t out_len);
+
+#ifdef __cplusplus
+}
+#endif
+
+#endif
