@@ -1,0 +1,164 @@
+// Reads cases from standard input, 51 numbers of 64 bits each, low byte first, in block order: the fields before the lines,
+// then each line's date and its eight amounts. A date is year + 65536 × month + 16777216 × day. Each number is cut to the
+// width of its field, and the case is valued as it stands, without reading a block. Prints a line for each: its place from
+// 1, the case number, and the payment with its items as whole numbers (payment, underpin and AVC in pence, the others in
+// hundredths of a penny) or the refusal.
+use calendar::Date;
+use cases::Case;
+use cases::Line;
+use cases::Refusal;
+use libc::STDIN_FILENO;
+use libc::STDOUT_FILENO;
+use valuing::Items;
+use valuing::Outcome;
+
+fn u8_of(n: u64) -> u8 {
+    (n % 256) as u8
+}
+
+fn u16_of(n: u64) -> u16 {
+    (n % 65536) as u16
+}
+
+fn u32_of(n: u64) -> u32 {
+    (n % 4294967296) as u32
+}
+
+fn date(n: u64) -> Date {
+    Date {
+        year: u16_of(n),
+        month: u8_of(n / 65536),
+        day: u8_of(n / 16777216),
+    }
+}
+
+fn line(b: &[u8]) -> Line {
+    Line {
+        date: date(buffers::u64_at(b, 0)),
+        pension: buffers::u64_at(b, 8),
+        additional: buffers::u64_at(b, 16),
+        survivor: buffers::u64_at(b, 24),
+        dependant: buffers::u64_at(b, 32),
+        lump: buffers::u64_at(b, 40),
+        modification: buffers::u64_at(b, 48),
+        debit: buffers::u64_at(b, 56),
+        lump_debit: buffers::u64_at(b, 64),
+    }
+}
+
+// The case of the 15 numbers at the start of b, and of lines.
+fn case_of(b: &[u8], lines: [Line; 4]) -> Case {
+    Case {
+        kind: u16_of(buffers::u64_at(b, 0)),
+        number: u32_of(buffers::u64_at(b, 8)),
+        status: u8_of(buffers::u64_at(b, 16)),
+        receiver: u8_of(buffers::u64_at(b, 24)),
+        flags: u8_of(buffers::u64_at(b, 32)),
+        count: u8_of(buffers::u64_at(b, 40)),
+        service: u16_of(buffers::u64_at(b, 48)),
+        birth: date(buffers::u64_at(b, 56)),
+        leaving: date(buffers::u64_at(b, 64)),
+        guarantee: date(buffers::u64_at(b, 72)),
+        state_pension: date(buffers::u64_at(b, 80)),
+        revaluation: u32_of(buffers::u64_at(b, 88)),
+        avc: buffers::u64_at(b, 96),
+        transfer: buffers::u64_at(b, 104),
+        contributions: buffers::u64_at(b, 112),
+        lines,
+    }
+}
+
+fn put_number(out: &mut [u8], at: usize, n: u64) -> usize {
+    let mut text = [0u8; 20];
+    let k = io::decimal(n, &mut text);
+    buffers::put(out, at, &text[..k])
+}
+
+fn put_after(out: &mut [u8], at: usize, word: &[u8], n: u64) -> usize {
+    let start = buffers::put(out, at, word);
+    put_number(out, start, n)
+}
+
+fn put_benefits(out: &mut [u8], at: usize, m: Items) -> usize {
+    let pension = put_after(out, at, b" pension ", m.pension);
+    let lump = put_after(out, pension, b" lump ", m.lump);
+    put_after(out, lump, b" survivor ", m.survivor)
+}
+
+fn put_items(out: &mut [u8], at: usize, m: Items) -> usize {
+    let payment = put_after(out, at, b" pay ", m.payment);
+    let benefits = put_benefits(out, payment, m);
+    let deduction = put_after(out, benefits, b" deduct ", m.deduction);
+    let underpin = put_after(out, deduction, b" underpin ", m.underpin);
+    put_after(out, underpin, b" avc ", m.avc)
+}
+
+// Writes the first n bytes of a text, where it has so many.
+fn put_start(out: &mut [u8], at: usize, text: &[u8], n: usize) -> usize {
+    if n <= text.len() {
+        buffers::put(out, at, &text[0..n])
+    } else {
+        at
+    }
+}
+
+fn put_refusal(out: &mut [u8], at: usize, why: Refusal) -> usize {
+    let number = put_after(out, at, b" refused ", cases::refusal_number(why) as u64);
+    let start = buffers::put(out, number, b" ");
+    let name = cases::refusal_name(why);
+    let bytes = name.bytes;
+    put_start(out, start, &bytes, name.length)
+}
+
+fn put_outcome(out: &mut [u8], at: usize, r: Outcome) -> usize {
+    match r {
+        Outcome::Paid(m) => put_items(out, at, m),
+        Outcome::Refused(why) => put_refusal(out, at, why),
+    }
+}
+
+fn print_start(text: &[u8], n: usize) {
+    if n <= text.len() {
+        io::write_all(STDOUT_FILENO, &text[0..n]);
+    }
+}
+
+fn print_outcome(place: u64, number: u32, r: Outcome) {
+    let mut out = [0u8; 256];
+    let start = put_number(&mut out, 0, place);
+    let words = put_after(&mut out, start, b" ", number as u64);
+    let outcome = put_outcome(&mut out, words, r);
+    let end = buffers::put(&mut out, outcome, b"\n");
+    print_start(&out, end);
+}
+
+// Prints the line of a record of 51 numbers.
+fn print_case(place: u64, b: &[u8]) {
+    if b.len() == 408 {
+        let lines = [
+            line(&b[120..]),
+            line(&b[192..]),
+            line(&b[264..]),
+            line(&b[336..]),
+        ];
+        let c = case_of(b, lines);
+        print_outcome(place, c.number, valuing::value(c));
+    }
+}
+
+// Reads a record and prints its line; false at the end of the input.
+fn print_record(place: u64) -> bool {
+    let mut record = [0u8; 408];
+    if io::read_full(STDIN_FILENO, &mut record) < 408 {
+        return false;
+    }
+    print_case(place, &record);
+    true
+}
+
+fn main() {
+    let mut place = 1;
+    while place < 1000000 && print_record(place) {
+        place += 1;
+    }
+}

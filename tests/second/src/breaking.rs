@@ -1,0 +1,356 @@
+//! Ways to break one rule of a block that is otherwise acceptable, each with the refusal that it calls for.
+
+use crate::generator::*;
+use crate::model::*;
+use crate::random::Random;
+
+type Break = fn(&Model, &mut Random, &mut Block);
+
+/// Refusals 3 to 14. Where two are applied, the later refusal's goes first, so that the earlier one stays broken.
+pub const BREAKS: &[(Refusal, &str, Break)] = &[
+    (3, "kind not listed", kind_not_listed),
+    (3, "count not allowed", count_not_allowed),
+    (4, "unnamed byte", unnamed_byte),
+    (4, "unused flag", unused_flag),
+    (4, "line past the count", line_past_count),
+    (4, "state pension date without flag", state_pension_without_flag),
+    (4, "transfer-in payment without flag", transfer_in_without_flag),
+    (4, "field of the other kind", field_of_other_kind),
+    (4, "additional amount past line 1", additional_past_line_1),
+    (5, "case number", case_number),
+    (5, "status code", status_code),
+    (5, "receiving code", receiving_code),
+    (5, "amount", amount_too_large),
+    (5, "revaluation", revaluation_range),
+    (5, "date", date_not_real),
+    (6, "birth not before leaving", birth_not_before_leaving),
+    (6, "leaving after guarantee", leaving_after_guarantee),
+    (6, "line 1 before the 65th birthday", line_1_early),
+    (6, "other line not before line 1", other_line_late),
+    (7, "status", |_, random, block| block.put(at::STATUS, 1, random.pick(&[2, 3, 4]))),
+    (8, "receiver", |_, random, block| block.put(at::RECEIVER, 1, random.pick(&[2, 3]))),
+    (9, "service", |_, random, block| block.put(at::SERVICE, 2, random.below(3))),
+    (10, "refer", state_pension_early),
+    (11, "age", too_old),
+    (12, "factor", no_row),
+    (13, "debit", debit_above),
+    (14, "negative", total_below_zero),
+];
+
+fn kind_not_listed(_: &Model, random: &mut Random, block: &mut Block) {
+    let kind = match random.below(4) {
+        0 => random.pick(&[0, 3, 4, 255, 65_535]),
+        1 => 256 * random.between(1, 255) as u64 + random.below(3),
+        _ => random.between(3, 65_535) as u64,
+    };
+    block.put(at::KIND, 2, kind);
+}
+
+fn count_not_allowed(_: &Model, random: &mut Random, block: &mut Block) {
+    let count = match random.below(3) {
+        0 => 0,
+        1 if block.kind() == 1 => random.between(2, 5),
+        1 => random.pick(&[5, 6, 128]),
+        _ => random.between(5, 255),
+    };
+    block.put(at::COUNT, 1, count as u64);
+}
+
+fn nonzero_byte(random: &mut Random) -> u64 {
+    random.at_edges(1, 255) as u64
+}
+
+fn nonzero_amount(random: &mut Random) -> u64 {
+    match random.below(4) {
+        0 => 1,
+        1 => 1 << random.below(64),
+        2 => LARGEST_AMOUNT,
+        _ => random.next() | 1,
+    }
+}
+
+fn unnamed_byte(model: &Model, random: &mut Random, block: &mut Block) {
+    let offset = match random.below(4) {
+        0 => random.pick(&[2, 3, 14, 15, 36, 37, 38, 39]),
+        1 => random.pick(&at::LINES) + random.between(4, 7) as usize,
+        2 => random.pick(&[352, 353, 506, 507]),
+        _ => random.pick(model.unnamed_bytes()),
+    };
+    block.put(offset, 1, nonzero_byte(random));
+}
+
+fn unused_flag(_: &Model, random: &mut Random, block: &mut Block) {
+    block.set_flag(1 << random.between(2, 7), true);
+}
+
+fn line_past_count(model: &Model, random: &mut Random, block: &mut Block) {
+    let count = block.count();
+    if count >= 4 {
+        return unnamed_byte(model, random, block);
+    }
+    let start = random.pick(&at::LINES[count..]);
+    match random.below(3) {
+        0 => block.put(start + random.below(72) as usize, 1, nonzero_byte(random)),
+        1 => block.put_date(start + at::DATE, date(2030, 6, 1)),
+        _ => block.put(start + random.pick(&at::AMOUNTS), 8, nonzero_amount(random)),
+    }
+}
+
+fn state_pension_without_flag(_: &Model, random: &mut Random, block: &mut Block) {
+    block.set_flag(HAS_GMP, false);
+    block.put_date(at::STATE_PENSION, date(0, 0, 0));
+    if random.one_in(2) {
+        block.put_date(at::STATE_PENSION, date(2030, 6, 1));
+    } else {
+        block.put(at::STATE_PENSION + random.below(4) as usize, 1, nonzero_byte(random));
+    }
+}
+
+fn transfer_in_without_flag(_: &Model, random: &mut Random, block: &mut Block) {
+    block.set_flag(TRANSFERRED_IN, false);
+    block.put(at::TRANSFER_IN, 8, nonzero_amount(random));
+}
+
+fn field_of_other_kind(_: &Model, random: &mut Random, block: &mut Block) {
+    if block.kind() == 2 {
+        let start = block.some_line(random);
+        let field = random.pick(&[at::LUMP, at::MODIFICATION, at::LUMP_DEBIT]);
+        return block.put(start + field, 8, nonzero_amount(random));
+    }
+    match random.below(4) {
+        0 => block.set_flag(TRANSFERRED_IN, true),
+        1 => block.put(at::CONTRIBUTIONS, 8, nonzero_amount(random)),
+        2 => block.put_date(at::LINES[0] + at::DATE, date(2030, 6, 1)),
+        _ => block.put(at::LINES[0] + random.below(4) as usize, 1, nonzero_byte(random)),
+    }
+}
+
+fn additional_past_line_1(model: &Model, random: &mut Random, block: &mut Block) {
+    if block.kind() != 2 || block.count() < 2 {
+        return line_past_count(model, random, block);
+    }
+    let last = block.count().min(4);
+    let start = random.pick(&at::LINES[1..last]);
+    block.put(start + random.pick(&[at::ADDITIONAL, at::DEPENDANT]), 8, nonzero_amount(random));
+}
+
+fn case_number(_: &Model, _: &mut Random, block: &mut Block) {
+    block.put(at::NUMBER, 4, 0);
+}
+
+fn status_code(_: &Model, random: &mut Random, block: &mut Block) {
+    let status = if random.one_in(3) { 0 } else { random.at_edges(5, 255) };
+    block.put(at::STATUS, 1, status as u64);
+}
+
+fn receiving_code(_: &Model, random: &mut Random, block: &mut Block) {
+    let receiver = if random.one_in(3) { 0 } else { random.at_edges(4, 255) };
+    block.put(at::RECEIVER, 1, receiver as u64);
+}
+
+fn amount_too_large(_: &Model, random: &mut Random, block: &mut Block) {
+    let amount = match random.below(4) {
+        0 => LARGEST_AMOUNT + 1,
+        1 => u64::MAX - random.below(3),
+        2 => 1 << random.between(30, 63),
+        _ => LARGEST_AMOUNT + 1 + random.below(u64::MAX - LARGEST_AMOUNT),
+    };
+    let mut fields = vec![at::AVC];
+    if block.flag(TRANSFERRED_IN) {
+        fields.push(at::TRANSFER_IN);
+    }
+    let start = block.some_line(random);
+    let of_line: &[usize] = match (block.kind(), start == at::LINES[0]) {
+        (1, _) => &at::AMOUNTS,
+        (_, true) => &[at::PENSION, at::ADDITIONAL, at::SURVIVOR, at::DEPENDANT, at::DEBIT],
+        (_, false) => &[at::PENSION, at::SURVIVOR, at::DEBIT],
+    };
+    if block.kind() == 2 {
+        fields.push(at::CONTRIBUTIONS);
+    }
+    fields.extend(of_line.iter().map(|field| start + field));
+    block.put(random.pick(&fields), 8, amount);
+}
+
+fn revaluation_range(_: &Model, random: &mut Random, block: &mut Block) {
+    let factor = match random.below(4) {
+        0 => random.pick(&[0, 1, 9_999]),
+        1 => random.pick(&[100_001, u32::MAX as i64, 10_000 << 16]),
+        2 => random.between(0, 9_999),
+        _ => random.between(100_001, u32::MAX as i64),
+    };
+    block.put(at::REVALUATION, 4, factor as u64);
+}
+
+/// A date that is none, or one outside the years 1900 to 2199.
+pub fn unreal_date(random: &mut Random) -> Date {
+    let year = random.between(1900, 2199);
+    match random.below(8) {
+        0 => random.pick(&[date(1900, 2, 29), date(2100, 2, 29), date(2023, 2, 29)]),
+        1 => random.pick(&[date(1899, 12, 31), date(2200, 1, 1), date(0, 0, 0), date(0, 1, 1)]),
+        2 => date(year, random.pick(&[4, 6, 9, 11]), 31),
+        3 => date(year, 2, random.between(30, 255)),
+        4 => date(year, random.pick(&[0, 13, 14, 255]), random.between(1, 28)),
+        5 => date(year, random.between(1, 12), random.pick(&[0, 32, 255])),
+        6 => date(random.between(2200, 65_535), random.between(1, 12), random.between(1, 28)),
+        _ => date(4 * random.between(475, 549) + random.between(1, 3), 2, 29),
+    }
+}
+
+fn date_not_real(_: &Model, random: &mut Random, block: &mut Block) {
+    let mut fields = vec![at::BIRTH, at::LEAVING, at::GUARANTEE];
+    if block.flag(HAS_GMP) {
+        fields.push(at::STATE_PENSION);
+    }
+    if block.kind() == 2 {
+        fields.push(block.some_line(random) + at::DATE);
+    }
+    let wrong = unreal_date(random);
+    block.put_date(random.pick(&fields), wrong);
+}
+
+fn birth_not_before_leaving(_: &Model, random: &mut Random, block: &mut Block) {
+    if random.one_in(2) {
+        let birth = block.day(at::BIRTH);
+        block.put_day(at::LEAVING, random.at_edges(birth.saturating_sub(400).max(first_day()), birth));
+    } else {
+        let leaving = block.day(at::LEAVING);
+        block.put_day(at::BIRTH, random.at_edges(leaving, (leaving + 400).min(last_day())));
+    }
+}
+
+fn leaving_after_guarantee(model: &Model, random: &mut Random, block: &mut Block) {
+    let guarantee = block.day(at::GUARANTEE);
+    if guarantee == last_day() {
+        return birth_not_before_leaving(model, random, block);
+    }
+    block.put_day(at::LEAVING, random.at_edges(guarantee + 1, (guarantee + 400).min(last_day())));
+}
+
+fn line_1_early(model: &Model, random: &mut Random, block: &mut Block) {
+    if block.kind() != 2 {
+        return birth_not_before_leaving(model, random, block);
+    }
+    if random.one_in(4) {
+        let birth = block.get_date(at::BIRTH).year;
+        let leap = date(birth - birth.rem_euclid(4), 2, 29);
+        if is_real(leap) {
+            block.put_date(at::BIRTH, leap);
+        }
+    }
+    let birthday = moved_on(block.get_date(at::BIRTH), 65).min(last_day() + 1);
+    let earliest = (birthday - 4_000).max(first_day());
+    block.put_day(at::LINES[0] + at::DATE, random.at_edges(earliest, birthday - 1));
+}
+
+fn other_line_late(model: &Model, random: &mut Random, block: &mut Block) {
+    if block.kind() != 2 || block.count() < 2 {
+        return leaving_after_guarantee(model, random, block);
+    }
+    let line_1 = block.day(at::LINES[0] + at::DATE);
+    let last = block.count().min(4);
+    let start = random.pick(&at::LINES[1..last]);
+    block.put_day(start + at::DATE, random.at_edges(line_1, (line_1 + 4_000).min(last_day())));
+}
+
+fn state_pension_early(_: &Model, random: &mut Random, block: &mut Block) {
+    block.set_flag(HAS_GMP, true);
+    let latest = day_number(date(2016, 4, 5));
+    block.put_day(at::STATE_PENSION, random.at_edges(first_day(), latest));
+}
+
+fn too_old(_: &Model, random: &mut Random, block: &mut Block) {
+    if block.kind() == 2 {
+        let start = block.some_line(random);
+        let earliest = block.day(start + at::DATE).max(block.day(at::LEAVING));
+        return block.put_day(at::GUARANTEE, random.at_edges(earliest, (earliest + 4_000).min(last_day())));
+    }
+    let birthday = moved_on(block.get_date(at::BIRTH), 60);
+    if birthday <= last_day() {
+        let earliest = birthday.max(block.day(at::LEAVING));
+        block.put_day(at::GUARANTEE, random.at_edges(earliest, (earliest + 4_000).min(last_day())));
+    } else {
+        let guarantee = block.get_date(at::GUARANTEE);
+        block.put_date(at::BIRTH, date(guarantee.year - 61, 6, 1));
+    }
+}
+
+fn no_row(_: &Model, random: &mut Random, block: &mut Block) {
+    let birth = block.get_date(at::BIRTH);
+    if block.kind() == 1 {
+        block.put_day(at::LEAVING, day_number(birth) + 1);
+        let latest = moved_on(birth, 22) - 1;
+        block.put_day(at::GUARANTEE, random.at_edges(day_number(birth) + 1, latest));
+        return;
+    }
+    let line_1 = at::LINES[0] + at::DATE;
+    let past_table = moved_on(block.get_date(at::GUARANTEE), 50) + 1;
+    if past_table <= last_day() {
+        // Not before the date it has, which stands at or after the 65th birthday.
+        let earliest = past_table.max(block.day(line_1));
+        block.put_day(line_1, random.at_edges(earliest, (earliest + 4_000).min(last_day())));
+        return;
+    }
+    let mut guarantee = day_number(date(block.get_date(line_1).year - 50, 1, 2));
+    while moved_on(date_of(guarantee), 50) >= block.day(line_1) {
+        guarantee -= 1;
+    }
+    block.put_day(at::LEAVING, day_number(birth) + 1);
+    block.put_day(at::GUARANTEE, guarantee);
+}
+
+fn debit_above(_: &Model, random: &mut Random, block: &mut Block) {
+    let start = block.some_line(random);
+    let lump = block.kind() == 1 && random.one_in(2);
+    let (benefits, debit): (&[usize], usize) =
+        if lump { (&[at::LUMP], at::LUMP_DEBIT) } else { (&[at::PENSION, at::ADDITIONAL], at::DEBIT) };
+    let reduced = |block: &Block| {
+        if lump {
+            block.revalued_lump(start)
+        } else {
+            block.revalued_pension(start)
+        }
+    };
+    if reduced(block) >= LARGEST_AMOUNT as i128 {
+        // No debit in range is above these, so they are made small.
+        for field in benefits {
+            block.put(start + field, 8, random.below(1_000));
+        }
+        if start != at::LINES[0] {
+            block.put(start + at::ADDITIONAL, 8, 0);
+        }
+    }
+    let least = reduced(block) as i64 + 1;
+    block.put(start + debit, 8, random.at_edges(least, LARGEST_AMOUNT as i64) as u64);
+}
+
+fn total_below_zero(model: &Model, random: &mut Random, block: &mut Block) {
+    if block.kind() != 1 {
+        *block = acceptable_kind_1(model, random);
+    }
+    if random.one_in(2) {
+        return put_total_near_zero(model, random, block, true);
+    }
+    let modification = at::LINES[0] + at::MODIFICATION;
+    block.put(modification, 8, LARGEST_AMOUNT);
+    let over = |block: &Block| model.value(&case_of(&block.0)) == Err(14);
+    if !over(block) {
+        return put_total_near_zero(model, random, block, true);
+    }
+    // The least modification that is refused, by halving, or a little more.
+    let (mut accepted, mut refused) = (0, LARGEST_AMOUNT);
+    block.put(modification, 8, 0);
+    if over(block) {
+        return;
+    }
+    while refused - accepted > 1 {
+        let middle = (accepted + refused) / 2;
+        block.put(modification, 8, middle);
+        if over(block) {
+            refused = middle
+        } else {
+            accepted = middle
+        }
+    }
+    block.put(modification, 8, random.at_edges(refused as i64, LARGEST_AMOUNT as i64) as u64);
+}

@@ -1,0 +1,219 @@
+//! Compares the proved library with the second calculator, block by block, and tries the stated properties on it.
+//!
+//!     second BLOCKS SEED FACTORS            compare, try the properties, count the answers reached
+//!     second memcheck BLOCKS SEED FACTORS   compare in heap memory of exact size, to be run under valgrind
+//!     second cases FOLDER                   write the notes' examples as case files
+
+mod breaking;
+mod examples;
+mod figures;
+mod generator;
+mod library;
+mod model;
+mod properties;
+mod random;
+mod trial;
+
+use library::*;
+use model::*;
+use std::process::ExitCode;
+use std::time::Instant;
+use trial::*;
+
+/// Each refusal and each kind's payment must be reached as often as this.
+const LEAST_REACHED: u64 = 100;
+
+/// How often each answer and each row of factors was reached.
+#[derive(Default)]
+struct Reached {
+    sorts: [u64; SORTS.len()],
+    refusals: [u64; 16],
+    paid: [u64; 3],
+    underpin_paid: u64,
+    ages: Vec<u64>,
+    years: Vec<u64>,
+    longest_line: usize,
+}
+
+impl Reached {
+    fn count_payment(&mut self, model: &Model, block: &[u8], payment: &Payment) {
+        let case = case_of(block);
+        self.paid[case.kind as usize] += 1;
+        if case.kind == 2 && payment.underpin > payment.gross {
+            self.underpin_paid += 1;
+        }
+        for line in case.used() {
+            let key = model.key(&case, line) as usize;
+            if case.kind == 1 {
+                self.ages[key] += 1
+            } else {
+                self.years[key] += 1
+            }
+        }
+    }
+
+    fn enough(&self) -> bool {
+        self.refusals[1..].iter().chain(&self.paid[1..]).all(|&n| n >= LEAST_REACHED)
+            && self.ages[22..].iter().chain(&self.years[1..]).all(|&n| n > 0)
+    }
+
+    fn print(&self) {
+        for (name, n) in SORTS.iter().zip(self.sorts) {
+            println!("  {name:<28}{n:>10}");
+        }
+        println!("answers reached (each at least {LEAST_REACHED} times)");
+        for (number, name) in NAMES.iter().enumerate().skip(1) {
+            println!("  refusal {number:>2} {name:<17}{:>10}", self.refusals[number]);
+        }
+        println!("  {:<28}{:>10}", "paid, kind 1", self.paid[1]);
+        println!("  {:<28}{:>10}", "paid, kind 2", self.paid[2]);
+        println!("  {:<28}{:>10}", "of these the underpin", self.underpin_paid);
+        println!("  {:<28}{:>10}", "each age 22 to 59, at least", self.ages[22..].iter().min().unwrap());
+        println!("  {:<28}{:>10}", "each year 1 to 50, at least", self.years[1..].iter().min().unwrap());
+        println!("  {:<28}{:>10}", "bytes of the longest line", self.longest_line);
+    }
+}
+
+fn hex(bytes: &[u8]) -> String {
+    bytes.iter().map(|byte| format!("{byte:02x}")).collect()
+}
+
+/// What is printed of a difference.
+pub fn show_difference(block: &[u8], place: u32, out_len: usize, wanted: &[u8], left: &Left) {
+    println!("block of {} bytes: {}", block.len(), hex(block));
+    println!("place {place}, buffer of {out_len} bytes");
+    println!("second calculator, {} bytes: {}", wanted.len(), String::from_utf8_lossy(wanted).trim_end());
+    let start = &left.buffer[..left.length.min(left.buffer.len())];
+    println!("library, {} bytes: {}", left.length, String::from_utf8_lossy(start).trim_end());
+    if !left.canaries_kept {
+        println!("library: bytes outside the buffer were changed");
+    }
+    println!("library, whole buffer: {}", hex(left.buffer));
+}
+
+/// The line that the second calculator forms, empty for refusal 15, with its answer.
+fn wanted(model: &Model, block: &[u8], place: u32, out_len: usize) -> (String, Result<Payment, Refusal>) {
+    if out_len < LEAST_BUFFER {
+        return (String::new(), Err(15));
+    }
+    let (number, answer) = model.answer(block);
+    (form_line(place, number, &answer), answer)
+}
+
+fn compare(model: &Model, blocks: u64, seed: u64) -> Result<Reached, String> {
+    let mut reached = Reached { ages: vec![0; 60], years: vec![0; 51], ..Reached::default() };
+    let mut lent = Lent::new();
+    let mut memory = [0; LONGEST_BLOCK + 8];
+    for index in 0..blocks {
+        let trial = draw(model, seed, index);
+        let (line, answer) = wanted(model, trial.block(), trial.place, trial.out_len);
+        let fill = index as u8;
+        // The block starts at any alignment too.
+        let start = index as usize % 8;
+        let end = start + trial.length;
+        memory[start..end].copy_from_slice(trial.block());
+        let left = lent.call(&memory[start..end], trial.place, trial.out_len, fill);
+        if !left.holds(line.as_bytes(), fill) || &memory[start..end] != trial.block() {
+            show_difference(trial.block(), trial.place, trial.out_len, line.as_bytes(), &left);
+            return Err(format!("a difference: seed {seed}, block {index}, {}", SORTS[trial.sort]));
+        }
+        if trial.meant.is_some_and(|meant| meant != answer.map(|_| ())) {
+            show_difference(trial.block(), trial.place, trial.out_len, line.as_bytes(), &left);
+            return Err(format!("drawn for {:?}: seed {seed}, block {index}, {}", trial.meant, SORTS[trial.sort]));
+        }
+        reached.sorts[trial.sort] += 1;
+        reached.longest_line = reached.longest_line.max(line.len());
+        match answer {
+            Ok(payment) => reached.count_payment(model, trial.block(), &payment),
+            Err(refusal) => reached.refusals[refusal] += 1,
+        }
+    }
+    Ok(reached)
+}
+
+/// The same comparison with every block and result in heap memory of its exact size.
+fn compare_in_heap(model: &Model, blocks: u64, seed: u64) -> Result<u64, String> {
+    let mut calls = 0;
+    let mut call = |block: &[u8], place: u32, out_len: usize| {
+        calls += 1;
+        let exact: Box<[u8]> = block.into();
+        let line = value_block_uninitialised(&exact, place, out_len);
+        if line == wanted(model, block, place, out_len).0.as_bytes() {
+            return Ok(());
+        }
+        Err(format!("a difference in heap memory: seed {seed}, call {calls}, block {}", hex(block)))
+    };
+    for index in 0..blocks {
+        let trial = draw(model, seed, index);
+        let out_len = if index % 2 == 0 { trial.out_len.min(LEAST_BUFFER) } else { trial.out_len };
+        call(trial.block(), trial.place, out_len)?;
+    }
+    for length in 0..=LONGEST_BLOCK {
+        let trial = draw(model, seed, length as u64);
+        call(&trial.bytes[..length], 1, LEAST_BUFFER)?;
+        call(trial.block(), 1, length)?;
+    }
+    Ok(calls)
+}
+
+fn load(factors: &str) -> Result<Model, String> {
+    let text = std::fs::read_to_string(factors).map_err(|e| format!("{factors}: {e}"))?;
+    Model::from_text(&text)
+}
+
+fn number(word: &str) -> Result<u64, String> {
+    word.parse().map_err(|_| format!("not a number: {word}"))
+}
+
+fn compare_and_report(blocks: u64, seed: u64, factors: &str) -> Result<(), String> {
+    let model = load(factors)?;
+    if model.rows() != (38, 50) {
+        return Err(format!("rows of factors: {:?}", model.rows()));
+    }
+    let start = Instant::now();
+    let days = figures::step_through_calendar()?;
+    let figures = figures::try_figures(&model)?;
+    let reached = compare(&model, blocks, seed)?;
+    let compared = start.elapsed();
+    let tried = properties::try_all(&model, blocks, seed)?;
+    println!("{:<30}{:>10}", "blocks compared", blocks);
+    reached.print();
+    println!("{:<30}{:>10}", "days of the calendar stepped", days);
+    println!("{:<30}{:>10}", "figures of 01 and the notes", figures);
+    println!("properties tried");
+    for (name, n) in &tried {
+        println!("  {name:<28}{n:>10}");
+    }
+    let all = start.elapsed().as_secs_f64();
+    println!("seed {seed}; comparing took {:.1} s, everything {all:.1} s", compared.as_secs_f64());
+    if !reached.enough() {
+        return Err("some answer or row was not reached often enough".into());
+    }
+    println!("no difference");
+    Ok(())
+}
+
+fn run(arguments: &[&str]) -> Result<(), String> {
+    match arguments {
+        ["cases", folder] => examples::write_cases(folder),
+        ["memcheck", blocks, seed, factors] => {
+            let calls = compare_in_heap(&load(factors)?, number(blocks)?, number(seed)?)?;
+            println!("{calls} calls in exact-size heap memory, no difference");
+            Ok(())
+        }
+        [blocks, seed, factors] => compare_and_report(number(blocks)?, number(seed)?, factors),
+        _ => Err("usage: second BLOCKS SEED FACTORS | memcheck BLOCKS SEED FACTORS | cases FOLDER".into()),
+    }
+}
+
+fn main() -> ExitCode {
+    let arguments: Vec<String> = std::env::args().skip(1).collect();
+    let words: Vec<&str> = arguments.iter().map(String::as_str).collect();
+    match run(&words) {
+        Ok(()) => ExitCode::SUCCESS,
+        Err(message) => {
+            println!("FAILED: {message}");
+            ExitCode::FAILURE
+        }
+    }
+}

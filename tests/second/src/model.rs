@@ -1,0 +1,529 @@
+//! The second calculator: reading a block, valuing a case and forming its line, from 01 and the two notes alone.
+//! It is made differently where it can be: dates are day counts, factors are read from text, sums are 128-bit.
+
+use std::collections::BTreeMap;
+
+pub const BLOCK_LENGTH: usize = 512;
+/// Fewer bytes than these lent for the line are refusal 15.
+pub const LEAST_BUFFER: usize = 256;
+pub const LARGEST_AMOUNT: u64 = 1_000_000_000;
+pub const TRANSFERRED_IN: u64 = 1;
+pub const HAS_GMP: u64 = 2;
+
+/// The refusals' names by number; a refusal is its number.
+pub const NAMES: [&str; 16] = [
+    "", "length", "check", "kind", "reserved", "range", "dates", "status", "receiver", "service", "refer", "age",
+    "factor", "debit", "negative", "buffer",
+];
+pub type Refusal = usize;
+
+/// Offsets of the fields in a block, and below them those in a line.
+pub mod at {
+    pub const KIND: usize = 0;
+    pub const NUMBER: usize = 4;
+    pub const STATUS: usize = 8;
+    pub const RECEIVER: usize = 9;
+    pub const FLAGS: usize = 10;
+    pub const COUNT: usize = 11;
+    pub const SERVICE: usize = 12;
+    pub const BIRTH: usize = 16;
+    pub const LEAVING: usize = 20;
+    pub const GUARANTEE: usize = 24;
+    pub const STATE_PENSION: usize = 28;
+    pub const REVALUATION: usize = 32;
+    pub const AVC: usize = 40;
+    pub const TRANSFER_IN: usize = 48;
+    pub const CONTRIBUTIONS: usize = 56;
+    pub const LINES: [usize; 4] = [64, 136, 208, 280];
+    pub const LINE_LENGTH: usize = 72;
+    pub const CHECK: usize = 508;
+
+    pub const DATE: usize = 0;
+    pub const PENSION: usize = 8;
+    pub const ADDITIONAL: usize = 16;
+    pub const SURVIVOR: usize = 24;
+    pub const DEPENDANT: usize = 32;
+    pub const LUMP: usize = 40;
+    pub const MODIFICATION: usize = 48;
+    pub const DEBIT: usize = 56;
+    pub const LUMP_DEBIT: usize = 64;
+    pub const AMOUNTS: [usize; 8] = [PENSION, ADDITIONAL, SURVIVOR, DEPENDANT, LUMP, MODIFICATION, DEBIT, LUMP_DEBIT];
+}
+
+// Calendar.
+
+#[derive(Clone, Copy, PartialEq, Eq, Debug)]
+pub struct Date {
+    pub year: i64,
+    pub month: i64,
+    pub day: i64,
+}
+
+pub const fn date(year: i64, month: i64, day: i64) -> Date {
+    Date { year, month, day }
+}
+
+/// Days from 1 March of year 0. Years are counted from March, so that the leap day is the last of its year.
+pub fn day_number(d: Date) -> i64 {
+    let (year, month) = if d.month > 2 { (d.year, d.month - 3) } else { (d.year - 1, d.month + 9) };
+    let leap_days = year.div_euclid(4) - year.div_euclid(100) + year.div_euclid(400);
+    365 * year + leap_days + (153 * month + 2) / 5 + d.day - 1
+}
+
+/// The date with this day number.
+pub fn date_of(number: i64) -> Date {
+    let era = number.div_euclid(146_097);
+    let day_of_era = number.rem_euclid(146_097);
+    let year_of_era = (day_of_era - day_of_era / 1_460 + day_of_era / 36_524 - day_of_era / 146_096) / 365;
+    let day_of_year = day_of_era - (365 * year_of_era + year_of_era / 4 - year_of_era / 100);
+    let month = (5 * day_of_year + 2) / 153;
+    let day = day_of_year - (153 * month + 2) / 5 + 1;
+    let year = year_of_era + 400 * era;
+    if month < 10 {
+        date(year, month + 3, day)
+    } else {
+        date(year + 1, month - 9, day)
+    }
+}
+
+/// The day number of a date moved on by years. 29 February of a common year has the day number of 1 March.
+pub fn moved_on(d: Date, years: i64) -> i64 {
+    day_number(date(d.year + years, d.month, d.day))
+}
+
+pub fn first_day() -> i64 {
+    day_number(date(1900, 1, 1))
+}
+
+pub fn last_day() -> i64 {
+    day_number(date(2199, 12, 31))
+}
+
+/// A date is real where its day number gives it back.
+pub fn is_real(d: Date) -> bool {
+    let number = day_number(d);
+    date_of(number) == d && (first_day()..=last_day()).contains(&number)
+}
+
+/// Birthdays reached.
+pub fn age(birth: Date, on: Date) -> i64 {
+    let today = day_number(on);
+    (1..).take_while(|&n| moved_on(birth, n) <= today).count() as i64
+}
+
+/// The fewest years by which `from` must move on so as not to stand before `to`.
+pub fn years_ahead(from: Date, to: Date) -> i64 {
+    let target = day_number(to);
+    (0..).find(|&n| moved_on(from, n) >= target).unwrap()
+}
+
+// The case.
+
+#[derive(Clone, Copy, Debug)]
+pub struct Line {
+    pub date: Date,
+    pub pension: u64,
+    pub additional: u64,
+    pub survivor: u64,
+    pub dependant: u64,
+    pub lump: u64,
+    pub modification: u64,
+    pub debit: u64,
+    pub lump_debit: u64,
+}
+
+#[derive(Clone, Debug)]
+pub struct Case {
+    pub kind: u64,
+    pub number: u64,
+    pub status: u64,
+    pub receiver: u64,
+    pub flags: u64,
+    pub count: u64,
+    pub service: u64,
+    pub birth: Date,
+    pub leaving: Date,
+    pub guarantee: Date,
+    pub state_pension: Date,
+    pub revaluation: u64,
+    pub avc: u64,
+    pub transfer_in: u64,
+    pub contributions: u64,
+    pub lines: [Line; 4],
+}
+
+impl Case {
+    fn has(&self, flag: u64) -> bool {
+        self.flags & flag != 0
+    }
+
+    /// The lines that the count covers.
+    pub fn used(&self) -> &[Line] {
+        &self.lines[..self.count as usize]
+    }
+}
+
+pub fn number_at(block: &[u8], offset: usize, width: usize) -> u64 {
+    block[offset..offset + width].iter().rev().fold(0, |n, &byte| n << 8 | byte as u64)
+}
+
+pub fn date_at(block: &[u8], offset: usize) -> Date {
+    date(number_at(block, offset, 2) as i64, block[offset + 2] as i64, block[offset + 3] as i64)
+}
+
+/// The sum over bytes 0 to 507 of position plus one times the byte.
+pub fn check_of(block: &[u8]) -> u64 {
+    block[..at::CHECK].iter().zip(1u64..).map(|(&byte, weight)| weight * byte as u64).sum()
+}
+
+fn line_at(block: &[u8], start: usize) -> Line {
+    let amount = |offset| number_at(block, start + offset, 8);
+    Line {
+        date: date_at(block, start + at::DATE),
+        pension: amount(at::PENSION),
+        additional: amount(at::ADDITIONAL),
+        survivor: amount(at::SURVIVOR),
+        dependant: amount(at::DEPENDANT),
+        lump: amount(at::LUMP),
+        modification: amount(at::MODIFICATION),
+        debit: amount(at::DEBIT),
+        lump_debit: amount(at::LUMP_DEBIT),
+    }
+}
+
+/// The fields as they stand, with no rule applied.
+pub fn case_of(block: &[u8]) -> Case {
+    Case {
+        kind: number_at(block, at::KIND, 2),
+        number: number_at(block, at::NUMBER, 4),
+        status: number_at(block, at::STATUS, 1),
+        receiver: number_at(block, at::RECEIVER, 1),
+        flags: number_at(block, at::FLAGS, 1),
+        count: number_at(block, at::COUNT, 1),
+        service: number_at(block, at::SERVICE, 2),
+        birth: date_at(block, at::BIRTH),
+        leaving: date_at(block, at::LEAVING),
+        guarantee: date_at(block, at::GUARANTEE),
+        state_pension: date_at(block, at::STATE_PENSION),
+        revaluation: number_at(block, at::REVALUATION, 4),
+        avc: number_at(block, at::AVC, 8),
+        transfer_in: number_at(block, at::TRANSFER_IN, 8),
+        contributions: number_at(block, at::CONTRIBUTIONS, 8),
+        lines: at::LINES.map(|start| line_at(block, start)),
+    }
+}
+
+/// Which bytes a field names, the check included.
+pub fn named_bytes() -> [bool; BLOCK_LENGTH] {
+    let mut named = [false; BLOCK_LENGTH];
+    let mut name = |offset: usize, width: usize| named[offset..offset + width].fill(true);
+    name(at::KIND, 2);
+    name(at::NUMBER, 4);
+    for byte in [at::STATUS, at::RECEIVER, at::FLAGS, at::COUNT] {
+        name(byte, 1);
+    }
+    name(at::SERVICE, 2);
+    for day in [at::BIRTH, at::LEAVING, at::GUARANTEE, at::STATE_PENSION] {
+        name(day, 4);
+    }
+    name(at::REVALUATION, 4);
+    for amount in [at::AVC, at::TRANSFER_IN, at::CONTRIBUTIONS] {
+        name(amount, 8);
+    }
+    for start in at::LINES {
+        name(start + at::DATE, 4);
+        for amount in at::AMOUNTS {
+            name(start + amount, 8);
+        }
+    }
+    name(at::CHECK, 4);
+    named
+}
+
+// The answer. Items are in hundredths of a penny, the rest in pence.
+
+#[derive(Clone, Copy, PartialEq, Eq, Debug, Default)]
+pub struct Payment {
+    pub pension: i128,
+    pub lump: i128,
+    pub survivor: i128,
+    pub deduct: i128,
+    pub gross: i128,
+    pub underpin: i128,
+    pub avc: i128,
+    pub paid: i128,
+}
+
+/// The factors used on a line, in hundredths; 003 has neither lump sum nor deduction.
+#[derive(Clone, Copy, PartialEq, Eq, Debug, Default)]
+pub struct Factors {
+    pub pension: i128,
+    pub lump: i128,
+    pub survivor: i128,
+    pub deduct: i128,
+}
+
+/// A non-negative amount over a divisor, halves up.
+fn rounded(amount: i128, divisor: i128) -> i128 {
+    (2 * amount + divisor) / (2 * divisor)
+}
+
+pub fn revalued(amount: u64, revaluation: u64) -> i128 {
+    rounded(amount as i128 * revaluation as i128, 10_000)
+}
+
+pub struct Model {
+    by_age: BTreeMap<i64, Factors>,
+    by_years: BTreeMap<i64, Factors>,
+    unnamed: Vec<usize>,
+}
+
+impl Model {
+    /// The tables as figures/factors.txt prints them.
+    pub fn from_text(text: &str) -> Result<Model, String> {
+        let named = named_bytes();
+        let mut model = Model {
+            by_age: BTreeMap::new(),
+            by_years: BTreeMap::new(),
+            unnamed: (0..BLOCK_LENGTH).filter(|&i| !named[i]).collect(),
+        };
+        for row in text.lines().filter(|row| !row.starts_with('#') && !row.trim().is_empty()) {
+            model.take_row(row).ok_or_else(|| format!("not a row of factors: {row}"))?;
+        }
+        Ok(model)
+    }
+
+    fn take_row(&mut self, row: &str) -> Option<()> {
+        let words: Vec<&str> = row.split_whitespace().collect();
+        let key: i64 = words.get(1)?.parse().ok()?;
+        let factors: Option<Vec<i128>> = words[2..].iter().map(|word| hundredths(word)).collect();
+        let earlier = match (words[0], &factors?[..]) {
+            ("1995", &[pension, lump, survivor, deduct]) => {
+                self.by_age.insert(key, Factors { pension, lump, survivor, deduct })
+            }
+            ("2015", &[pension, survivor]) => {
+                self.by_years.insert(key, Factors { pension, survivor, ..Factors::default() })
+            }
+            _ => return None,
+        };
+        if earlier.is_some() {
+            None
+        } else {
+            Some(())
+        }
+    }
+
+    pub fn unnamed_bytes(&self) -> &[usize] {
+        &self.unnamed
+    }
+
+    pub fn rows(&self) -> (usize, usize) {
+        (self.by_age.len(), self.by_years.len())
+    }
+
+    /// The key into the kind's table: age for kind 1, years ahead of the line for kind 2.
+    pub fn key(&self, case: &Case, line: &Line) -> i64 {
+        if case.kind == 1 {
+            age(case.birth, case.guarantee)
+        } else {
+            years_ahead(case.guarantee, line.date)
+        }
+    }
+
+    pub fn factors(&self, case: &Case, line: &Line) -> Option<Factors> {
+        let table = if case.kind == 1 { &self.by_age } else { &self.by_years };
+        table.get(&self.key(case, line)).copied()
+    }
+
+    pub fn read(&self, block: &[u8]) -> Result<Case, Refusal> {
+        if block.len() != BLOCK_LENGTH {
+            return Err(1);
+        }
+        if number_at(block, at::CHECK, 4) != check_of(block) {
+            return Err(2);
+        }
+        let case = case_of(block);
+        if !kind_allowed(&case) {
+            Err(3)
+        } else if self.unnamed.iter().any(|&i| block[i] != 0) || reserved_broken(block, &case) {
+            Err(4)
+        } else if range_broken(&case) {
+            Err(5)
+        } else {
+            Ok(case)
+        }
+    }
+
+    /// Refusals 6 to 14, or the payment. Refusals 3 to 5 are decided by `read`: no case is built by hand here.
+    pub fn value(&self, case: &Case) -> Result<Payment, Refusal> {
+        refused_before_factors(case)?;
+        let factors: Option<Vec<Factors>> = case.used().iter().map(|line| self.factors(case, line)).collect();
+        let factors = factors.ok_or(12usize)?;
+        if case.used().iter().any(|line| debit_broken(case, line)) {
+            return Err(13);
+        }
+        let mut payment = items(case, &factors);
+        let total = signed_total(&payment);
+        if total < 0 {
+            return Err(14);
+        }
+        payment.gross = rounded(total, 100);
+        let before_avc =
+            if case.kind == 1 { 100 * rounded(payment.gross, 100) } else { payment.gross.max(payment.underpin) };
+        payment.paid = before_avc + payment.avc;
+        Ok(payment)
+    }
+
+    /// The case number printed and the answer.
+    pub fn answer(&self, block: &[u8]) -> (u64, Result<Payment, Refusal>) {
+        match self.read(block) {
+            Ok(case) => (case.number, self.value(&case)),
+            Err(refusal) => (0, Err(refusal)),
+        }
+    }
+}
+
+/// A number with two decimals, in hundredths.
+fn hundredths(word: &str) -> Option<i128> {
+    let (whole, decimals) = word.split_once('.')?;
+    if decimals.len() != 2 {
+        return None;
+    }
+    Some(100 * whole.parse::<u32>().ok()? as i128 + decimals.parse::<u32>().ok()? as i128)
+}
+
+fn kind_allowed(case: &Case) -> bool {
+    match case.kind {
+        1 => case.count == 1,
+        2 => (1..=4).contains(&case.count),
+        _ => false,
+    }
+}
+
+/// Every must-be-zero rule but that of the unnamed bytes.
+fn reserved_broken(block: &[u8], case: &Case) -> bool {
+    let nonzero = |offset: usize, width: usize| number_at(block, offset, width) != 0;
+    let past_count = at::LINES[case.count as usize..]
+        .iter()
+        .any(|&start| block[start..start + at::LINE_LENGTH].iter().any(|&byte| byte != 0));
+    let of_kind = if case.kind == 1 {
+        case.has(TRANSFERRED_IN) || nonzero(at::CONTRIBUTIONS, 8) || nonzero(at::LINES[0], 4)
+    } else {
+        let only_kind_1 = [at::LUMP, at::MODIFICATION, at::LUMP_DEBIT];
+        at::LINES.iter().any(|&start| only_kind_1.iter().any(|&field| nonzero(start + field, 8)))
+    };
+    case.flags & !(TRANSFERRED_IN | HAS_GMP) != 0
+        || past_count
+        || (!case.has(HAS_GMP) && nonzero(at::STATE_PENSION, 4))
+        || (!case.has(TRANSFERRED_IN) && nonzero(at::TRANSFER_IN, 8))
+        || of_kind
+        || case.lines[1..].iter().any(|line| line.additional != 0 || line.dependant != 0)
+}
+
+/// Dates that must be zero were held to that by the rule before, so only the others are tried here.
+fn range_broken(case: &Case) -> bool {
+    let amounts_broken = |line: &Line| {
+        let Line { pension, additional, survivor, dependant, .. } = *line;
+        let Line { lump, modification, debit, lump_debit, .. } = *line;
+        [pension, additional, survivor, dependant, lump, modification, debit, lump_debit]
+            .iter()
+            .any(|&amount| amount > LARGEST_AMOUNT)
+    };
+    case.number == 0
+        || !(1..=4).contains(&case.status)
+        || !(1..=3).contains(&case.receiver)
+        || !(10_000..=100_000).contains(&case.revaluation)
+        || [case.avc, case.transfer_in, case.contributions].iter().any(|&a| a > LARGEST_AMOUNT)
+        || case.lines.iter().any(amounts_broken)
+        || ![case.birth, case.leaving, case.guarantee].iter().all(|&d| is_real(d))
+        || (case.has(HAS_GMP) && !is_real(case.state_pension))
+        || (case.kind == 2 && !case.used().iter().all(|line| is_real(line.date)))
+}
+
+fn dates_broken(case: &Case) -> bool {
+    let birth = day_number(case.birth);
+    let leaving = day_number(case.leaving);
+    let first_line = day_number(case.lines[0].date);
+    birth >= leaving
+        || leaving > day_number(case.guarantee)
+        || (case.kind == 2
+            && (first_line < moved_on(case.birth, 65)
+                || case.used()[1..].iter().any(|line| day_number(line.date) >= first_line)))
+}
+
+fn past_pension_age(case: &Case) -> bool {
+    if case.kind == 1 {
+        age(case.birth, case.guarantee) >= 60
+    } else {
+        let guarantee = day_number(case.guarantee);
+        case.used().iter().any(|line| day_number(line.date) <= guarantee)
+    }
+}
+
+/// Refusals 6 to 11, in order.
+fn refused_before_factors(case: &Case) -> Result<(), Refusal> {
+    let gmp_to_refer = case.has(HAS_GMP) && day_number(case.state_pension) < day_number(date(2016, 4, 6));
+    let rules = [
+        (6, dates_broken(case)),
+        (7, case.status != 1),
+        (8, case.receiver != 1),
+        (9, case.service < 3),
+        (10, gmp_to_refer),
+        (11, past_pension_age(case)),
+    ];
+    match rules.iter().find(|(_, broken)| *broken) {
+        Some((refusal, _)) => Err(*refusal),
+        None => Ok(()),
+    }
+}
+
+fn debit_broken(case: &Case, line: &Line) -> bool {
+    line.debit as i128 > revalued(line.pension + line.additional, case.revaluation)
+        || line.lump_debit as i128 > revalued(line.lump, case.revaluation)
+}
+
+/// Steps 1 to 3 of the sum, with the underpin and the AVC.
+fn items(case: &Case, factors: &[Factors]) -> Payment {
+    let mut sum = Payment { avc: case.avc as i128, ..Payment::default() };
+    for (line, factor) in case.used().iter().zip(factors) {
+        let pension = revalued(line.pension + line.additional, case.revaluation);
+        let survivor = revalued(line.survivor + line.dependant, case.revaluation);
+        let lump = revalued(line.lump, case.revaluation);
+        sum.pension += (pension - line.debit as i128) * factor.pension;
+        sum.lump += (lump - line.lump_debit as i128) * factor.lump;
+        sum.survivor += survivor * factor.survivor;
+        sum.deduct += line.modification as i128 * factor.deduct;
+    }
+    if case.kind == 2 && case.has(TRANSFERRED_IN) {
+        sum.underpin = case.transfer_in as i128 + case.contributions as i128;
+    }
+    sum
+}
+
+pub fn signed_total(payment: &Payment) -> i128 {
+    payment.pension + payment.lump + payment.survivor - payment.deduct
+}
+
+fn pounds(pence: i128) -> String {
+    format!("{}.{:02}", pence / 100, pence % 100)
+}
+
+fn pounds_with_four_decimals(hundredths: i128) -> String {
+    format!("{}.{:04}", hundredths / 10_000, hundredths % 10_000)
+}
+
+pub fn form_line(place: u32, number: u64, answer: &Result<Payment, Refusal>) -> String {
+    match answer {
+        Err(refusal) => format!("{place} {number} refused {refusal} {}\n", NAMES[*refusal]),
+        Ok(payment) => format!(
+            "{place} {number} pay {} pension {} lump {} survivor {} deduct {} underpin {} avc {}\n",
+            pounds(payment.paid),
+            pounds_with_four_decimals(payment.pension),
+            pounds_with_four_decimals(payment.lump),
+            pounds_with_four_decimals(payment.survivor),
+            pounds_with_four_decimals(payment.deduct),
+            pounds(payment.underpin),
+            pounds(payment.avc),
+        ),
+    }
+}

@@ -1,0 +1,259 @@
+//! Properties of the library as it is built: demand 3 on pairs of cases, the lent buffer, the place and the lengths.
+
+use crate::generator::*;
+use crate::library::*;
+use crate::model::*;
+use crate::random::Random;
+use crate::trial::LONGEST_BLOCK;
+use crate::{hex, show_difference};
+
+/// What a line of the library says was paid, in pence, and its items, in hundredths of a penny.
+struct Paid {
+    paid: i128,
+    items: [i128; 4],
+    underpin: i128,
+    avc: i128,
+}
+
+fn money(word: &str, decimals: usize) -> Option<i128> {
+    let (whole, rest) = word.split_once('.')?;
+    if rest.len() != decimals {
+        return None;
+    }
+    format!("{whole}{rest}").parse().ok()
+}
+
+/// Reads a line, word by word; no other line than a payment is read.
+fn parse(line: &str) -> Option<Paid> {
+    let words: Vec<&str> = line.strip_suffix('\n')?.split(' ').collect();
+    let names: Vec<&str> = words.get(2..)?.iter().step_by(2).copied().collect();
+    if names != ["pay", "pension", "lump", "survivor", "deduct", "underpin", "avc"] {
+        return None;
+    }
+    let word = |i: usize| words.get(3 + 2 * i).copied().unwrap_or("");
+    Some(Paid {
+        paid: money(word(0), 2)?,
+        items: [money(word(1), 4)?, money(word(2), 4)?, money(word(3), 4)?, money(word(4), 4)?],
+        underpin: money(word(5), 2)?,
+        avc: money(word(6), 2)?,
+    })
+}
+
+impl Paid {
+    /// The gross value that the printed items add up to.
+    fn gross(&self) -> i128 {
+        let [pension, lump, survivor, deduct] = self.items;
+        (pension + lump + survivor - deduct + 50).div_euclid(100)
+    }
+
+    /// Whether steps 5 and 6 make the payment of the gross value.
+    fn follows(&self, kind: u64) -> bool {
+        let before_avc =
+            if kind == 1 { (self.gross() + 50).div_euclid(100) * 100 } else { self.gross().max(self.underpin) };
+        self.paid == before_avc + self.avc
+    }
+}
+
+fn line_of(lent: &mut Lent, block: &Block) -> String {
+    let left = lent.call(&block.0, 1, LEAST_BUFFER, 0);
+    String::from_utf8_lossy(&left.buffer[..left.length.min(LEAST_BUFFER)]).into_owned()
+}
+
+/// The entry that is made larger, and by how much it can be.
+struct Entry {
+    field: usize,
+    start: usize,
+    most: i128,
+}
+
+const BENEFITS: [usize; 5] = [at::PENSION, at::ADDITIONAL, at::SURVIVOR, at::DEPENDANT, at::LUMP];
+const REDUCTIONS: [usize; 3] = [at::DEBIT, at::LUMP_DEBIT, at::MODIFICATION];
+
+/// How much more a debit or a modification can be before the case is refused for it.
+fn reduction_left(model: &Model, block: &Block, start: usize, field: usize) -> Option<i128> {
+    let case = case_of(&block.0);
+    let line = case.lines[at::LINES.iter().position(|&other| other == start)?];
+    let total = signed_total(&model.value(&case).ok()?);
+    let factors = model.factors(&case, &line)?;
+    Some(match field {
+        at::DEBIT => (block.revalued_pension(start) - line.debit as i128).min(total / factors.pension),
+        at::LUMP_DEBIT => (block.revalued_lump(start) - line.lump_debit as i128).min(total / factors.lump),
+        _ => total / factors.deduct,
+    })
+}
+
+fn draw_entry(model: &Model, random: &mut Random, block: &Block, fields: &[usize]) -> Option<Entry> {
+    let field = random.pick(fields);
+    let only_kind_1 = [at::LUMP, at::LUMP_DEBIT, at::MODIFICATION].contains(&field);
+    if only_kind_1 && block.kind() == 2 {
+        return None;
+    }
+    let start = if [at::ADDITIONAL, at::DEPENDANT].contains(&field) { at::LINES[0] } else { block.some_line(random) };
+    let now = block.get(start + field, 8) as i128;
+    let limit = if BENEFITS.contains(&field) {
+        LARGEST_AMOUNT as i128
+    } else {
+        now + reduction_left(model, block, start, field)?
+    };
+    let most = limit.min(LARGEST_AMOUNT as i128) - now;
+    (most > 0).then_some(Entry { field, start, most })
+}
+
+/// Two accepted cases that differ in one entry, the second's the larger.
+fn draw_pair(model: &Model, random: &mut Random, fields: &[usize]) -> (Block, Block, Entry, i128) {
+    loop {
+        let mut smaller = acceptable(model, random);
+        let Some(entry) = draw_entry(model, random, &smaller, fields) else { continue };
+        let extra = match random.below(4) {
+            0 => 1,
+            1 => random.between(1, entry.most.min(200) as i64),
+            2 => entry.most as i64,
+            _ => random.between(1, entry.most as i64),
+        };
+        let offset = entry.start + entry.field;
+        let mut larger = smaller.clone();
+        larger.put(offset, 8, smaller.get(offset, 8) + extra as u64);
+        smaller.seal();
+        larger.seal();
+        return (smaller, larger, entry, extra as i128);
+    }
+}
+
+/// Whether the gross values differ by extra times revaluation times factor, to within the factor and a penny.
+fn close(model: &Model, smaller: &Block, entry: &Entry, extra: i128, difference: i128) -> bool {
+    let case = case_of(&smaller.0);
+    let line = at::LINES.iter().position(|&start| start == entry.start).unwrap();
+    let factors = model.factors(&case, &case.lines[line]).unwrap();
+    let factor = match entry.field {
+        at::PENSION | at::ADDITIONAL => factors.pension,
+        at::LUMP => factors.lump,
+        _ => factors.survivor,
+    };
+    let exact = extra * case.revaluation as i128 * factor;
+    (difference * 1_000_000 - exact).abs() <= (factor + 100) * 10_000
+}
+
+fn try_pair(model: &Model, random: &mut Random, lent: &mut Lent, fields: &[usize]) -> Result<(), String> {
+    let (smaller, larger, entry, extra) = draw_pair(model, random, fields);
+    let lines = [line_of(lent, &smaller), line_of(lent, &larger)];
+    let failed = |what: &str| {
+        println!("the smaller: {}\nthe larger: {}", hex(&smaller.0), hex(&larger.0));
+        println!("{}{}", lines[0], lines[1]);
+        Err(format!("{what}: field {} of the line at {}, {extra} more", entry.field, entry.start))
+    };
+    let (Some(before), Some(after)) = (parse(&lines[0]), parse(&lines[1])) else {
+        return failed("one of a pair of accepted cases is not paid");
+    };
+    let gross = [&smaller, &larger].map(|block| model.value(&case_of(&block.0)).unwrap().gross);
+    if [before.gross(), after.gross()] != gross {
+        return failed("the printed items do not add up to the gross value");
+    }
+    if !before.follows(smaller.kind()) || !after.follows(larger.kind()) {
+        return failed("steps 5 and 6 do not give the payment");
+    }
+    let benefit = BENEFITS.contains(&entry.field);
+    if benefit && after.paid < before.paid {
+        return failed("paid less for a larger benefit");
+    }
+    if benefit && !close(model, &smaller, &entry, extra, gross[1] - gross[0]) {
+        return failed("the gross value is not close to the exact product");
+    }
+    if !benefit && after.paid > before.paid {
+        return failed("paid more for a larger reduction");
+    }
+    Ok(())
+}
+
+/// Tries a block with a buffer of every length from 0 to 600, and three contents of it.
+fn try_buffers(model: &Model, lent: &mut Lent, block: &[u8], place: u32) -> Result<u64, String> {
+    let (number, answer) = model.answer(block);
+    let line = form_line(place, number, &answer);
+    for out_len in 0..=LARGEST_BUFFER {
+        let wanted = if out_len < LEAST_BUFFER { "" } else { &line };
+        for fill in [0x00, 0xFF, b' '] {
+            let left = lent.call(block, place, out_len, fill);
+            if !left.holds(wanted.as_bytes(), fill) {
+                show_difference(block, place, out_len, wanted.as_bytes(), &left);
+                return Err(format!("the buffer of {out_len} bytes is not left as it should be"));
+            }
+        }
+    }
+    Ok(3 * (LARGEST_BUFFER as u64 + 1))
+}
+
+/// Tries the same block at many places: nothing but the place changes.
+fn try_places(random: &mut Random, lent: &mut Lent, block: &Block) -> Result<u64, String> {
+    let mut places = vec![0, 1, u32::MAX, 0x8000_0000, random.next() as u32];
+    places.extend((1..10).flat_map(|digits| [10u32.pow(digits) - 1, 10u32.pow(digits)]));
+    let at_7 = {
+        let left = lent.call(&block.0, 7, LEAST_BUFFER, 1);
+        left.buffer.get(1..left.length).ok_or("no line at place 7")?.to_vec()
+    };
+    for &place in &places {
+        let left = lent.call(&block.0, place, LEAST_BUFFER, 1);
+        let wanted = [place.to_string().as_bytes(), &at_7].concat();
+        if !left.holds(&wanted, 1) {
+            show_difference(&block.0, place, LEAST_BUFFER, &wanted, &left);
+            return Err(format!("at place {place} more than the place is different"));
+        }
+    }
+    Ok(places.len() as u64)
+}
+
+/// Tries every length from 0 to 600 of these bytes: all but 512 are refused for it.
+fn try_lengths(model: &Model, lent: &mut Lent, bytes: &[u8]) -> Result<u64, String> {
+    for length in 0..=LONGEST_BLOCK {
+        let block = &bytes[..length];
+        let line = if length == BLOCK_LENGTH {
+            let (number, answer) = model.answer(block);
+            form_line(5, number, &answer)
+        } else {
+            "5 0 refused 1 length\n".into()
+        };
+        let left = lent.call(block, 5, LEAST_BUFFER, 9);
+        if !left.holds(line.as_bytes(), 9) {
+            show_difference(block, 5, LEAST_BUFFER, line.as_bytes(), &left);
+            return Err(format!("a block of {length} bytes"));
+        }
+    }
+    Ok(LONGEST_BLOCK as u64 + 1)
+}
+
+fn try_blocks(model: &Model, random: &mut Random, lent: &mut Lent, rounds: u64) -> Result<[u64; 3], String> {
+    let mut tried = [0; 3];
+    for round in 0..rounds {
+        let mut block = acceptable(model, random);
+        if round % 4 == 3 {
+            let (_, _, change) = random.pick(crate::breaking::BREAKS);
+            change(model, random, &mut block);
+        }
+        block.seal();
+        let mut longer = block.0.to_vec();
+        longer.extend((BLOCK_LENGTH..LONGEST_BLOCK).map(|_| random.next() as u8));
+        tried[0] += try_buffers(model, lent, &block.0, random.next() as u32)?;
+        tried[1] += try_places(random, lent, &block)?;
+        tried[2] += try_lengths(model, lent, &longer)?;
+    }
+    Ok(tried)
+}
+
+/// Every property, with how often it was tried.
+pub fn try_all(model: &Model, blocks: u64, seed: u64) -> Result<Vec<(&'static str, u64)>, String> {
+    let lent = &mut Lent::new();
+    let pairs = (blocks / 8).max(1_000);
+    for index in 0..pairs {
+        let random = &mut Random::new(seed, 2, index);
+        try_pair(model, random, lent, &BENEFITS).map_err(|e| format!("{e}; seed {seed}, pair {index}"))?;
+        try_pair(model, random, lent, &REDUCTIONS).map_err(|e| format!("{e}; seed {seed}, pair {index}"))?;
+    }
+    let random = &mut Random::new(seed, 3, 0);
+    let [buffers, places, lengths] =
+        try_blocks(model, random, lent, (blocks / 5_000).clamp(20, 1_000)).map_err(|e| format!("{e}, seed {seed}"))?;
+    Ok(vec![
+        ("pairs, larger benefit", pairs),
+        ("pairs, larger reduction", pairs),
+        ("buffers of 0 to 600 bytes", buffers),
+        ("places", places),
+        ("blocks of 0 to 600 bytes", lengths),
+    ])
+}

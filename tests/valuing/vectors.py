@@ -1,0 +1,1228 @@
+#!/usr/bin/env python3
+"""Test vectors for valuing a case.
+
+    vectors.py stdin    the cases: 51 numbers of 64 bits each, low byte first
+    vectors.py stdout   the line expected for each case
+    vectors.py list     number, label and stated expectation of each vector
+
+Each vector states its expectation, worked by hand or taken from 01 or the two
+guidance notes: the payment with its items, or the number of the refusal. Where
+every row of the tables is tried, the table's own figures are stated. The script
+also holds a model of valuing, and stops with exit code 1 when the model and a
+stated expectation differ, before it writes anything. The factors are those of
+figures/factors.txt. It needs Python 3.9 or later and its standard library.
+"""
+
+import datetime
+import pathlib
+import sys
+from fractions import Fraction
+
+REFUSALS = {
+    3: "kind",
+    4: "reserved",
+    5: "range",
+    6: "dates",
+    7: "status",
+    8: "receiver",
+    9: "service",
+    10: "refer",
+    11: "age",
+    12: "factor",
+    13: "debit",
+    14: "negative",
+}
+LIMIT = 1_000_000_000  # the largest amount, in pence
+
+
+# ---------------------------------------------------------------------------
+# A case: its fields in block order, by name. A date is a triple of numbers.
+
+AMOUNTS = [
+    "pension",
+    "additional pension",
+    "survivor",
+    "dependant's additional",
+    "lump sum",
+    "modification",
+    "pension debit",
+    "lump sum debit",
+]
+LINES = (1, 2, 3, 4)
+HEAD = [
+    "kind",
+    "case number",
+    "status",
+    "receiving scheme",
+    "flags",
+    "count",
+    "months",
+    "birth",
+    "leaving",
+    "guarantee",
+    "state pension date",
+    "revaluation",
+    "AVC",
+    "transfer-in",
+    "own contributions",
+]
+FIELDS = HEAD + [f"line {i} {name}" for i in LINES for name in ["date"] + AMOUNTS]
+DATES = [name for name in FIELDS if name in HEAD[7:11] or name.endswith(" date")]
+NO_DATE = (0, 0, 0)
+EMPTY = {name: NO_DATE if name in DATES else 0 for name in FIELDS}
+assert len(FIELDS) == 51 and len(DATES) == 8
+
+
+def record(case):
+    """The 51 numbers of a case in bytes."""
+    numbers = []
+    for name in FIELDS:
+        value = case[name]
+        if name in DATES:
+            year, month, day = value
+            value = year + 65536 * month + 16777216 * day
+        numbers.append(value)
+    return b"".join(number.to_bytes(8, "little") for number in numbers)
+
+
+# ---------------------------------------------------------------------------
+# The model: the calendar, the factors, the refusals in their order, the sum.
+
+
+def real_day(date):
+    """The day, or None where there is none from 1900 to 2199."""
+    try:
+        day = datetime.date(*date)
+    except ValueError:
+        return None
+    return day if 1900 <= day.year <= 2199 else None
+
+
+def moved_on(day, years):
+    try:
+        return day.replace(year=day.year + years)
+    except ValueError:  # 29 February in a common year
+        return datetime.date(day.year + years, 3, 1)
+
+
+def age(birth, on):
+    birthdays = 0
+    while moved_on(birth, birthdays + 1) <= on:
+        birthdays += 1
+    return birthdays
+
+
+def years_ahead(guarantee, day):
+    years = 0
+    while moved_on(guarantee, years) < day:
+        years += 1
+    return years
+
+
+def read_factors():
+    """By kind and by age or years ahead, the factors of pension, lump sum, survivor and deduction."""
+    rows = {}
+    path = pathlib.Path(__file__).resolve().parents[2] / "figures" / "factors.txt"
+    for line in path.read_text().splitlines():
+        if line.startswith("#"):
+            continue
+        table, row, *figures = line.split()
+        figures = [Fraction(figure) for figure in figures]
+        if table == "1995":
+            pension, lump, survivor, deduction = figures
+            rows[1, int(row)] = (pension, lump, survivor, deduction)
+        else:
+            pension, survivor = figures
+            rows[2, int(row)] = (pension, Fraction(0), survivor, Fraction(0))
+    return rows
+
+
+FACTORS = read_factors()
+
+
+def nearest(amount):
+    """To the whole number, halves up."""
+    return (amount + Fraction(1, 2)).__floor__()
+
+
+def lines_of(case):
+    """The lines within the count, each by the names of its fields."""
+    return [{name: case[f"line {i} {name}"] for name in ["date"] + AMOUNTS} for i in LINES[: case["count"]]]
+
+
+def kind_fault(case):
+    return (case["kind"], case["count"]) not in {(1, 1), (2, 1), (2, 2), (2, 3), (2, 4)}
+
+
+def reserved_fault(case):
+    kind, flags, count = case["kind"], case["flags"], case["count"]
+    zero = set()
+    if not flags & 2:
+        zero.add("state pension date")
+    if not flags & 1:
+        zero.add("transfer-in")
+    if kind == 1:
+        zero |= {"own contributions", "line 1 date"}
+    for i in LINES:
+        names = []
+        if kind == 2:
+            names += ["lump sum", "modification", "lump sum debit"]
+        if i > 1:
+            names += ["additional pension", "dependant's additional"]
+        if i > count:
+            names += ["date"] + AMOUNTS
+        zero |= {f"line {i} {name}" for name in names}
+    unused = flags not in (0, 1, 2, 3) or (kind == 1 and flags & 1)
+    return bool(unused) or any(case[name] != EMPTY[name] for name in zero)
+
+
+def range_fault(case):
+    dates = ["birth", "leaving", "guarantee"]
+    if case["flags"] & 2:
+        dates.append("state pension date")
+    if case["kind"] == 2:
+        dates += [f"line {i} date" for i in LINES[: case["count"]]]
+    amounts = ["AVC", "transfer-in", "own contributions"]
+    amounts += [f"line {i} {name}" for i in LINES for name in AMOUNTS]
+    return (
+        case["case number"] == 0
+        or case["status"] not in (1, 2, 3, 4)
+        or case["receiving scheme"] not in (1, 2, 3)
+        or not 10_000 <= case["revaluation"] <= 100_000
+        or any(case[name] > LIMIT for name in amounts)
+        or any(real_day(case[name]) is None for name in dates)
+    )
+
+
+def dates_fault(case):
+    birth, leaving, guarantee = (real_day(case[name]) for name in ("birth", "leaving", "guarantee"))
+    if leaving <= birth or guarantee < leaving:
+        return True
+    if case["kind"] == 1:
+        return False
+    first, *others = [real_day(line["date"]) for line in lines_of(case)]
+    return first < moved_on(birth, 65) or any(day >= first for day in others)
+
+
+def refer_fault(case):
+    return bool(case["flags"] & 2) and real_day(case["state pension date"]) < datetime.date(2016, 4, 6)
+
+
+def age_of(case):
+    return age(real_day(case["birth"]), real_day(case["guarantee"]))
+
+
+def age_fault(case):
+    if case["kind"] == 1:
+        return age_of(case) >= 60
+    return any(real_day(line["date"]) <= real_day(case["guarantee"]) for line in lines_of(case))
+
+
+def row_of(case, line):
+    if case["kind"] == 1:
+        row = age_of(case)
+    else:
+        row = years_ahead(real_day(case["guarantee"]), real_day(line["date"]))
+    return FACTORS.get((case["kind"], row))
+
+
+def revalued(case, pence):
+    return nearest(pence * Fraction(case["revaluation"], 10_000))
+
+
+def benefits(case, line):
+    """Pension, lump sum and survivor's pension once revalued, in pence, and the debits on the first two."""
+    pension = revalued(case, line["pension"] + line["additional pension"])
+    lump = revalued(case, line["lump sum"])
+    survivor = revalued(case, line["survivor"] + line["dependant's additional"])
+    return pension, lump, survivor, line["pension debit"], line["lump sum debit"]
+
+
+def debit_fault(case):
+    for line in lines_of(case):
+        pension, lump, _, debit, lump_debit = benefits(case, line)
+        if debit > pension or lump_debit > lump:
+            return True
+    return False
+
+
+def items(case):
+    """Pension, lump sum, survivor and deduction over all lines, in pence with their fractions."""
+    totals = [Fraction(0)] * 4
+    for line in lines_of(case):
+        pension, lump, survivor, debit, lump_debit = benefits(case, line)
+        pence = (pension - debit, lump - lump_debit, survivor, line["modification"])
+        totals = [total + amount * factor for total, amount, factor in zip(totals, pence, row_of(case, line))]
+    return totals
+
+
+def signed_total(case):
+    pension, lump, survivor, deduction = items(case)
+    return pension + lump + survivor - deduction
+
+
+# In the order in which they are looked at; each may rely on those before it.
+FAULTS_IN_ORDER = [
+    (3, kind_fault),
+    (4, reserved_fault),
+    (5, range_fault),
+    (6, dates_fault),
+    (7, lambda case: case["status"] != 1),
+    (8, lambda case: case["receiving scheme"] != 1),
+    (9, lambda case: case["months"] < 3),
+    (10, refer_fault),
+    (11, age_fault),
+    (12, lambda case: any(row_of(case, line) is None for line in lines_of(case))),
+    (13, debit_fault),
+    (14, lambda case: signed_total(case) < 0),
+]
+
+
+def valued(case):
+    """The number of a refusal, or the payment in pence with its items by name."""
+    for number, fault in FAULTS_IN_ORDER:
+        if fault(case):
+            return number
+    pension, lump, survivor, deduction = (amount * 100 for amount in items(case))
+    gross = nearest(signed_total(case))
+    underpin = 0
+    if case["kind"] == 1:
+        payment = nearest(Fraction(gross, 100)) * 100
+    else:
+        if case["flags"] & 1:
+            underpin = case["transfer-in"] + case["own contributions"]
+        payment = max(gross, underpin)
+    return {
+        "pay": payment + case["AVC"],
+        "pension": pension,
+        "lump": lump,
+        "survivor": survivor,
+        "deduct": deduction,
+        "underpin": underpin,
+        "avc": case["AVC"],
+    }
+
+
+# ---------------------------------------------------------------------------
+# Expectations. Money is stated in pounds; an item that is not stated is nil.
+
+UNITS = {"pay": 100, "pension": 10_000, "lump": 10_000, "survivor": 10_000, "deduct": 10_000, "underpin": 100, "avc": 100}
+
+
+def paid(pay, **stated):
+    stated = {"pay": pay} | stated
+    amounts = {}
+    for name, unit in UNITS.items():
+        amount = Fraction(stated.get(name, "0").replace(",", "")) * unit
+        assert amount.denominator == 1 and set(stated) <= set(UNITS)
+        amounts[name] = amount.numerator
+    return amounts
+
+
+def text(expectation):
+    if isinstance(expectation, int):
+        return f"refused {expectation} {REFUSALS[expectation]}"
+    return " ".join(f"{name} {expectation[name]}" for name in UNITS)
+
+
+VECTORS = []  # group, label, expectation, case
+LABELS = set()
+FAULTS = []
+_group = ""
+
+
+def group(name):
+    global _group
+    _group = name
+
+
+def vector(label, expectation, base, changes=None, wrong=None):
+    """A case with some fields changed. `wrong` is a payment or a refusal that a known mistake would give."""
+    case = base | (changes or {})
+    found = valued(case)
+    if found != expectation:
+        FAULTS.append(f"{_group}: {label}: stated {text(expectation)}, model {text(found)}")
+    if set(case) != set(FIELDS):
+        FAULTS.append(f"{_group}: {label}: a field name is wrong")
+    if (_group, label) in LABELS:
+        FAULTS.append(f"{_group}: {label}: label used twice")
+    if wrong is not None and expectation["pay"] == paid(wrong)["pay"]:
+        FAULTS.append(f"{_group}: {label}: the mistake does not show")
+    LABELS.add((_group, label))
+    VECTORS.append((_group, label, expectation, case))
+
+
+# ---------------------------------------------------------------------------
+# The cases that the vectors start from.
+
+# Kind 1, age 54, no revaluation: factors 18.05, 0.88, 1.50 and 12.42.
+AGED_54 = EMPTY | {
+    "kind": 1,
+    "case number": 54,
+    "status": 1,
+    "receiving scheme": 1,
+    "count": 1,
+    "months": 120,
+    "birth": (1967, 6, 1),
+    "leaving": (1985, 4, 1),
+    "guarantee": (2021, 6, 1),
+    "revaluation": 10_000,
+}
+
+# Kind 2, 25 years ahead, no revaluation: factors 9.27 and 1.33. Born so that line 1 stands on the 65th birthday.
+AHEAD_25 = EMPTY | {
+    "kind": 2,
+    "case number": 25,
+    "status": 1,
+    "receiving scheme": 1,
+    "count": 1,
+    "months": 120,
+    "birth": (1980, 5, 10),
+    "leaving": (2015, 5, 10),
+    "guarantee": (2020, 5, 10),
+    "revaluation": 10_000,
+    "line 1 date": (2045, 5, 10),
+}
+
+# With four lines, 25, 24, 23 and 22 years ahead: pension factors 9.27, 9.55, 9.84, 10.14; survivor 1.33, 1.35, 1.36, 1.38.
+FOUR_LINES = AHEAD_25 | {
+    "count": 4,
+    "line 2 date": (2044, 5, 10),
+    "line 3 date": (2043, 5, 10),
+    "line 4 date": (2042, 5, 10),
+}
+
+# 001, Example A. The note gives no length of service; the same of the examples of 003.
+A_001 = EMPTY | {
+    "kind": 1,
+    "case number": 1,
+    "status": 1,
+    "receiving scheme": 1,
+    "count": 1,
+    "months": 120,
+    "birth": (1967, 6, 1),
+    "leaving": (2012, 4, 1),
+    "guarantee": (2020, 2, 1),
+    "revaluation": 11_400,
+    "line 1 pension": 5_000_00,
+    "line 1 additional pension": 1_000_00,
+    "line 1 survivor": 2_500_00,
+    "line 1 dependant's additional": 375_00,
+    "line 1 lump sum": 15_000_00,
+    "line 1 modification": 20_00,
+}
+
+A_003 = EMPTY | {
+    "kind": 2,
+    "case number": 31,
+    "status": 1,
+    "receiving scheme": 1,
+    "count": 1,
+    "months": 12,
+    "birth": (1966, 6, 1),
+    "leaving": (2016, 4, 1),
+    "guarantee": (2019, 2, 1),
+    "revaluation": 10_496,
+    "line 1 date": (2033, 6, 1),
+    "line 1 pension": 5_000_00,
+    "line 1 additional pension": 1_000_00,
+    "line 1 survivor": 1_687_50,
+    "line 1 dependant's additional": 375_00,
+}
+
+# 003, Example B, with the date of leaving that stands by itself; the guarantee date is also called that of leaving.
+B_003 = EMPTY | {
+    "kind": 2,
+    "case number": 2,
+    "status": 1,
+    "receiving scheme": 1,
+    "count": 1,
+    "months": 29,
+    "birth": (1977, 8, 7),
+    "leaving": (2017, 9, 1),
+    "guarantee": (2020, 12, 1),
+    "revaluation": 10_660,
+    "line 1 date": (2045, 1, 6),
+    "line 1 pension": 2_500_00,
+    "line 1 survivor": 843_75,
+}
+
+C_003 = EMPTY | {
+    "kind": 2,
+    "case number": 33,
+    "status": 1,
+    "receiving scheme": 1,
+    "count": 1,
+    "months": 7,
+    "birth": (1952, 11, 1),
+    "leaving": (2015, 11, 1),
+    "guarantee": (2016, 2, 1),
+    "revaluation": 10_496,
+    "line 1 date": (2017, 11, 1),
+    "line 1 pension": 3_500_00,
+    "line 1 survivor": 1_181_25,
+}
+
+# 003, Example D: reduced ages 67 and 65. The survivor's pension is 33.75% of each line's pension.
+D_003 = EMPTY | {
+    "kind": 2,
+    "case number": 34,
+    "status": 1,
+    "receiving scheme": 1,
+    "count": 3,
+    "months": 80,
+    "birth": (1979, 7, 3),
+    "leaving": (2021, 12, 1),
+    "guarantee": (2021, 12, 1),
+    "revaluation": 10_000,
+    "line 1 date": (2047, 7, 3),
+    "line 1 pension": 2_000_00,
+    "line 1 survivor": 675_00,
+    "line 2 date": (2046, 7, 3),
+    "line 2 pension": 3_000_00,
+    "line 2 survivor": 1_012_50,
+    "line 3 date": (2044, 7, 3),
+    "line 3 pension": 5_500_00,
+    "line 3 survivor": 1_856_25,
+}
+
+B_PAID = {"pension": "24,704.5500", "survivor": "1,196.2552"}
+D_PAID = {"pension": "100,090.00", "survivor": "4,755.3750"}
+
+
+# A pension of £100.00 on each line, and what it pays.
+P54 = AGED_54 | {"line 1 pension": 100_00}
+P25 = AHEAD_25 | {"line 1 pension": 100_00}
+P4 = FOUR_LINES | {f"line {i} pension": 100_00 for i in LINES}
+P54_PAID = paid("1,805.00", pension="1,805.00")
+P25_PAID = paid("927.00", pension="927.00")
+P4_PAID = paid("3,880.00", pension="3,880.00")
+
+
+def only(pounds):
+    """Paid as many pounds, all of it pension."""
+    return paid(pounds, pension=pounds)
+
+
+def lines_up_to(count):
+    """P4 with its first lines only."""
+    past = {name: EMPTY[name] for name in FIELDS for i in LINES[count:] if name.startswith(f"line {i} ")}
+    return P4 | past | {"count": count}
+
+
+# ---------------------------------------------------------------------------
+# The vectors.
+
+
+def figures_at_the_edges():
+    group("figures at the edges")
+    # 899.44 at 1.33
+    vector("84,375p at 1.0660 is 89,944p", paid("1,196.26", survivor="1,196.2552"), AHEAD_25, {
+        "revaluation": 10_660, "line 1 survivor": 84_375,
+    }, wrong="1,196.25")
+    vector("1p at 1.5000 is 2p, kind 1", paid("0", pension="0.3610"), AGED_54, {
+        "revaluation": 15_000, "line 1 pension": 1,
+    })
+    vector("1p at 1.5000 is 2p, kind 2", paid("0.19", pension="0.1854"), AHEAD_25, {
+        "revaluation": 15_000, "line 1 pension": 1,
+    }, wrong="0.09")
+    vector("10p pension and 1p survivor at 54", paid("2.00", pension="1.8050", survivor="0.0150"), AGED_54, {
+        "line 1 pension": 10, "line 1 survivor": 1,
+    })
+    vector("pension 100p, debit 100p", paid("0"), AGED_54, {"line 1 pension": 100, "line 1 pension debit": 100})
+    vector("pension 100p, debit 101p", 13, AGED_54, {"line 1 pension": 100, "line 1 pension debit": 101})
+    vector("no benefit and 1p modification", 14, AGED_54, {"line 1 modification": 1})
+    vector("born 1 June 1967, on 31 May 2020: 52", only("1,724.00"), P54, {"guarantee": (2020, 5, 31)})
+    vector("born 1 June 1967, on 1 June 2020: 53", only("1,764.00"), P54, {"guarantee": (2020, 6, 1)})
+    ahead = P25 | {"birth": (1979, 7, 3), "guarantee": (2021, 7, 3)}
+    vector("3 July 2021 to 3 July 2047: 26", only("908.00"), ahead, {"line 1 date": (2047, 7, 3)})
+    vector("3 July 2021 to 4 July 2047: 27", only("889.00"), ahead, {"line 1 date": (2047, 7, 4)})
+    flagged_b = B_003 | {"flags": 1, "transfer-in": 20_000_00}
+    vector("case B, £20,000.00 in, £5,900.81 contributed", paid("25,900.81", underpin="25,900.81", **B_PAID), flagged_b, {
+        "own contributions": 5_900_81,
+    })
+    vector("case B, a penny more contributed", paid("25,900.82", underpin="25,900.82", **B_PAID), flagged_b, {
+        "own contributions": 5_900_82,
+    })
+    gmp = P54 | {"flags": 2}
+    vector("state pension date 5 April 2016", 10, gmp, {"state pension date": (2016, 4, 5)})
+    vector("state pension date 6 April 2016", P54_PAID, gmp, {"state pension date": (2016, 4, 6)})
+    vector("service of 3 months", P54_PAID, P54, {"months": 3})
+    vector("service of 2 months", 9, P54, {"months": 2})
+
+
+def examples():
+    """Each prints its result; with 01's sum each comes to the same."""
+    group("examples")
+    # prints £136,868.93 and £136,869
+    vector("001, A", paid(
+        "136,869.00", pension="117,921.6000", lump="14,364.0000", survivor="4,817.9250", deduct="234.6000",
+    ), A_001)
+    # 001's Example E is a member with reserved rights, which are left to the desk. Its parts (2) and (3) are kind 1 as it
+    # stands, before rounding to whole pounds £20,305.40 and £52,804.14.
+    part = AGED_54 | {"birth": (1958, 1, 1), "leaving": (1990, 1, 1), "guarantee": (2012, 1, 1), "revaluation": 19_703}
+    vector("001, E, part 2 by itself", paid(
+        "20,305.00", pension="17,094.7940", lump="2,500.30", survivor="710.31",
+    ), part, {"line 1 pension": 480_68, "line 1 lump sum": 1_442_04, "line 1 survivor": 240_34})
+    vector("001, E, part 3 by itself", paid(
+        "52,804.00", pension="44,454.9840", lump="6,501.9944", survivor="1,847.16",
+    ), part, {"line 1 pension": 1_250_00, "line 1 lump sum": 3_750_00, "line 1 survivor": 625_00})
+    vector("003, A", paid("78,210.29", pension="74,941.44", survivor="3,268.8480"), A_003)
+    vector("003, B", paid("25,900.81", **B_PAID), B_003)
+    vector("003, C", paid("63,149.18", pension="61,165.44", survivor="1,983.7440"), C_003)
+    # Rows 26, 25 and 23: 18,160.00 + 884.25, 27,810.00 + 1,346.625, 54,120.00 + 2,524.50; the half penny goes up.
+    vector("003, D", paid("104,845.38", **D_PAID), D_003)
+    # 13.31 for 10 years and 13.94 for 8
+    vector("003, 2.17: leaving at 58, ages 68 and 66", only("27,250.00"), P25, {
+        "count": 2, "birth": (1962, 3, 15), "guarantee": (2020, 3, 15), "line 1 date": (2030, 3, 15),
+        "line 2 date": (2028, 3, 15), "line 1 pension": 1_000_00, "line 2 pension": 1_000_00,
+    })
+
+
+def clerks():
+    group("sums clerks have got wrong")
+    vector("survivor's pension is rounded when revalued", paid("25,900.81", **B_PAID), B_003, wrong="25,900.80")
+    # 180.5 + 268.5 pence; 181 + 269 is the next pound
+    vector("items are not rounded, kind 1", paid("4.00", pension="1.8050", survivor="2.6850"), AGED_54, {
+        "line 1 pension": 10, "line 1 survivor": 179,
+    }, wrong="5.00")
+    # 463.5 + 66.5 pence
+    vector("items are not rounded, kind 2", paid("5.30", pension="4.6350", survivor="0.6650"), AHEAD_25, {
+        "line 1 pension": 50, "line 1 survivor": 50,
+    }, wrong="5.31")
+    # 559.0 = 463.5 + 95.5 pence
+    vector("lines are not rounded", paid("5.59", pension="5.5900"), lines_up_to(2), {
+        "line 1 pension": 50, "line 2 pension": 10,
+    }, wrong="5.60")
+    vector("halves go up, gross value, to odd", paid("13.91", pension="13.9050"), AHEAD_25, {
+        "line 1 pension": 150,
+    }, wrong="13.90")
+    vector("halves go up, gross value, to even", paid("4.64", pension="4.6350"), AHEAD_25, {
+        "line 1 pension": 50,
+    }, wrong="4.63")
+    # 3p at 1.5 is 5p, at 9.27 46.35 pence
+    vector("halves go up, revaluation, to odd", paid("0.46", pension="0.4635"), AHEAD_25, {
+        "revaluation": 15_000, "line 1 pension": 3,
+    }, wrong="0.37")
+    vector("halves go up, revaluation, to even", paid("0.19", pension="0.1854"), AHEAD_25, {
+        "revaluation": 15_000, "line 1 pension": 1,
+    }, wrong="0.09")
+    # 250 and 150 pence
+    vector("halves go up, whole pounds, to odd", paid("3.00", lump="2.20", survivor="0.30"), AGED_54, {
+        "line 1 lump sum": 250, "line 1 survivor": 20,
+    }, wrong="2.00")
+    vector("halves go up, whole pounds, to even", paid("2.00", survivor="1.50"), AGED_54, {
+        "line 1 survivor": 100,
+    }, wrong="1.00")
+    vector("no underpin without a transfer in", paid("25,900.81", **B_PAID), B_003, {
+        "own contributions": 30_000_00,
+    }, wrong="30,000.00")
+    doubled = AGED_54 | {"revaluation": 20_000}
+    # (200 - 50) at 18.05; 100 at 18.05 if the debit were revalued
+    vector("the debit is not revalued", paid("2,708.00", pension="2,707.50"), doubled, {
+        "line 1 pension": 100_00, "line 1 pension debit": 50_00,
+    }, wrong="1,805.00")
+    # (200 - 60) at 0.88
+    vector("the lump sum debit is not revalued", paid("123.00", lump="123.20"), doubled, {
+        "line 1 lump sum": 100_00, "line 1 lump sum debit": 60_00,
+    }, wrong="70.00")
+    # 200 at 18.05, less 10 at 12.42
+    vector("the modification is not revalued", paid("3,486.00", pension="3,610.00", deduct="124.20"), doubled, {
+        "line 1 pension": 100_00, "line 1 modification": 10_00,
+    }, wrong="3,362.00")
+    vector("a debit above the amount before revaluation", paid("903.00", pension="902.50"), doubled, {
+        "line 1 pension": 100_00, "line 1 pension debit": 150_00,
+    })
+    # (200 - 50) at 9.27
+    vector("the debit is not revalued, kind 2", only("1,390.50"), AHEAD_25, {
+        "revaluation": 20_000, "line 1 pension": 100_00, "line 1 pension debit": 50_00,
+    }, wrong="927.00")
+
+
+def every_row():
+    """£100.00 of each benefit, and of modification in kind 1, on each row of the tables."""
+    group("every row")
+    for (kind, row), (pension, lump, survivor, deduction) in sorted(FACTORS.items()):
+        figures = {"pension": pension, "lump": lump, "survivor": survivor, "deduct": deduction}
+        stated = {name: str(int(factor * 100)) for name, factor in figures.items() if factor}
+        total = 100 * (pension + lump + survivor - deduction)
+        if kind == 1:
+            vector(f"kind 1, age {row}", paid(str(int(total)), **stated), P54, {
+                "leaving": (1985, 4, 1), "guarantee": (1967 + row, 6, 1), "line 1 survivor": 100_00,
+                "line 1 lump sum": 100_00, "line 1 modification": 100_00,
+            })
+        else:
+            vector(f"kind 2, {row} years ahead", paid(str(int(total)), **stated), P25, {
+                "birth": (1955, 5, 10), "line 1 date": (2020 + row, 5, 10), "line 1 survivor": 100_00,
+            })
+
+
+def kind():
+    group("3 kind")
+    for number in (0, 3, 4, 257, 258, 65535):
+        vector(f"kind {number}", 3, P25, {"kind": number})
+    vector("kind 1, count 1", P54_PAID, P54)
+    for count in (0, 2, 3, 4, 5, 255):
+        vector(f"kind 1, count {count}", 3, P54, {"count": count})
+    vector("kind 2, count 1", P25_PAID, P25)
+    vector("kind 2, count 2", only("1,882.00"), lines_up_to(2))
+    vector("kind 2, count 3", only("2,866.00"), lines_up_to(3))
+    vector("kind 2, count 4", P4_PAID, P4)
+    for count in (0, 5, 255):
+        vector(f"kind 2, count {count}", 3, P4, {"count": count})
+
+
+def flags():
+    group("4 reserved, flags")
+    for bit in (4, 8, 16, 32, 64, 128):
+        vector(f"kind 1, flag {bit}", 4, P54, {"flags": bit})
+        vector(f"kind 2, flag {bit}", 4, P25, {"flags": bit})
+    dated = {"state pension date": (2034, 6, 1)}
+    vector("kind 1, transferred in", 4, P54, {"flags": 1})
+    vector("kind 1, transferred in and GMP", 4, P54, dated | {"flags": 3})
+    vector("kind 1, GMP", P54_PAID, P54, dated | {"flags": 2})
+    vector("kind 1, state pension date without GMP", 4, P54, dated)
+    vector("kind 2, transferred in", P25_PAID, P25, {"flags": 1})
+    vector("kind 2, transferred in and GMP", P25_PAID, P25, dated | {"flags": 3})
+    vector("kind 2, GMP", P25_PAID, P25, dated | {"flags": 2})
+    vector("kind 2, state pension date without GMP", 4, P25, dated)
+    vector("kind 2, state pension date with the other flag", 4, P25, dated | {"flags": 1})
+    for date in ((1, 0, 0), (0, 1, 0), (0, 0, 1)):
+        vector(f"a part of the state pension date, {date}", 4, P54, {"state pension date": date})
+        vector(f"a part of the line's date in kind 1, {date}", 4, P54, {"line 1 date": date})
+    vector("kind 1, transfer-in 1p", 4, P54, {"transfer-in": 1})
+    vector("kind 2, transfer-in 1p without its flag", 4, P25, {"transfer-in": 1})
+    vector("kind 2, transfer-in 1p with the other flag", 4, P25, dated | {"flags": 2, "transfer-in": 1})
+    vector("kind 2, transfer-in 1p", paid("927.00", pension="927.00", underpin="0.01"), P25, {"flags": 1, "transfer-in": 1})
+    vector("kind 1, own contributions 1p", 4, P54, {"own contributions": 1})
+    vector("kind 2, own contributions 1p without the flag", P25_PAID, P25, {"own contributions": 1})
+    vector("kind 1, the line's date", 4, P54, {"line 1 date": (2027, 6, 1)})
+
+
+def reserved_amounts():
+    group("4 reserved, amounts")
+    for i in LINES:
+        for name in ("lump sum", "modification", "lump sum debit"):
+            vector(f"kind 2, line {i} {name} 1p", 4, P4, {f"line {i} {name}": 1})
+    vector("kind 1, lump sum 1p", paid("1,805.00", pension="1,805.00", lump="0.0088"), P54, {"line 1 lump sum": 1})
+    vector("kind 1, modification 1p", paid("1,805.00", pension="1,805.00", deduct="0.1242"), P54, {"line 1 modification": 1})
+    vector("kind 1, lump sum and debit 1p", P54_PAID, P54, {"line 1 lump sum": 1, "line 1 lump sum debit": 1})
+    for i in (2, 3, 4):
+        vector(f"line {i} additional pension 1p", 4, P4, {f"line {i} additional pension": 1})
+        vector(f"line {i} dependant's additional 1p", 4, P4, {f"line {i} dependant's additional": 1})
+    vector("line 1 additional pension 1p", paid("3,880.09", pension="3,880.0927"), P4, {"line 1 additional pension": 1})
+    vector("line 1 dependant's additional 1p", paid("3,880.01", pension="3,880.00", survivor="0.0133"), P4, {
+        "line 1 dependant's additional": 1,
+    })
+    for i in (2, 3, 4):
+        for name in AMOUNTS:
+            vector(f"kind 1, line {i} {name} 1p", 4, P54, {f"line {i} {name}": 1})
+            vector(f"kind 2, line {i} {name} 1p past the count", 4, lines_up_to(i - 1), {f"line {i} {name}": 1})
+        vector(f"kind 1, line {i} date", 4, P54, {f"line {i} date": (2040, 5, 10)})
+        vector(f"kind 2, line {i} date past the count", 4, lines_up_to(i - 1), {f"line {i} date": (2040, 5, 10)})
+
+
+def codes():
+    group("5 range, codes")
+    vector("case number 0", 5, P54, {"case number": 0})
+    vector("case number 1", P54_PAID, P54, {"case number": 1})
+    vector("case number 4294967295", P25_PAID, P25, {"case number": 4294967295})
+    for status in (0, 5, 255):
+        vector(f"status {status}", 5, P54, {"status": status})
+    for receiver in (0, 4, 255):
+        vector(f"receiving scheme {receiver}", 5, P25, {"receiving scheme": receiver})
+    for revaluation in (0, 9_999, 100_001, 2**32 - 1):
+        vector(f"revaluation {revaluation}", 5, P54, {"revaluation": revaluation})
+    vector("revaluation 10,000", P54_PAID, P54, {"revaluation": 10_000})
+    vector("revaluation 100,000", only("18,050.00"), P54, {"revaluation": 100_000})
+
+
+def amounts():
+    """Each amount at the limit and a penny above it; what each is paid at the limit, in pounds."""
+    group("5 range, amounts")
+
+    def limited(label, expectation, base, name, changes=None):
+        vector(f"{label} at the limit", expectation, base | (changes or {}), {name: LIMIT})
+        vector(f"{label} above the limit", 5, base | (changes or {}), {name: LIMIT + 1})
+        vector(f"{label} 2 to the power 64 less 1", 5, base | (changes or {}), {name: 2**64 - 1})
+
+    limited("kind 1, AVC", paid("10,000,000.00", avc="10,000,000.00"), AGED_54, "AVC")
+    limited("kind 1, pension", only("180,500,000.00"), AGED_54, "line 1 pension")
+    limited("kind 1, additional pension", only("180,500,000.00"), AGED_54, "line 1 additional pension")
+    limited("kind 1, survivor", paid("15,000,000.00", survivor="15,000,000.00"), AGED_54, "line 1 survivor")
+    limited("kind 1, dependant's additional", paid("15,000,000.00", survivor="15,000,000.00"), AGED_54,
+            "line 1 dependant's additional")
+    limited("kind 1, lump sum", paid("8,800,000.00", lump="8,800,000.00"), AGED_54, "line 1 lump sum")
+    limited("kind 1, modification", paid("56,300,000.00", pension="180,500,000.00", deduct="124,200,000.00"), AGED_54,
+            "line 1 modification", {"line 1 pension": LIMIT})
+    limited("kind 1, pension debit", paid("0"), AGED_54, "line 1 pension debit", {"line 1 pension": LIMIT})
+    limited("kind 1, lump sum debit", paid("0"), AGED_54, "line 1 lump sum debit", {"line 1 lump sum": LIMIT})
+    limited("kind 2, AVC", paid("10,000,000.00", avc="10,000,000.00"), AHEAD_25, "AVC")
+    flagged = {"flags": 1}
+    limited("kind 2, transfer-in", paid("10,000,000.00", underpin="10,000,000.00"), AHEAD_25, "transfer-in", flagged)
+    limited("kind 2, own contributions", paid("10,000,000.00", underpin="10,000,000.00"), AHEAD_25,
+            "own contributions", flagged)
+    limited("kind 2, own contributions without the flag", paid("0"), AHEAD_25, "own contributions")
+    limited("kind 2, additional pension", only("92,700,000.00"), AHEAD_25, "line 1 additional pension")
+    limited("kind 2, dependant's additional", paid("13,300,000.00", survivor="13,300,000.00"), AHEAD_25,
+            "line 1 dependant's additional")
+    pensions = {1: "92,700,000.00", 2: "95,500,000.00", 3: "98,400,000.00", 4: "101,400,000.00"}
+    survivors = {1: "13,300,000.00", 2: "13,500,000.00", 3: "13,600,000.00", 4: "13,800,000.00"}
+    for i in LINES:
+        limited(f"kind 2, line {i} pension", only(pensions[i]), FOUR_LINES, f"line {i} pension")
+        limited(f"kind 2, line {i} survivor", paid(survivors[i], survivor=survivors[i]), FOUR_LINES, f"line {i} survivor")
+        limited(f"kind 2, line {i} pension debit", paid("0"), FOUR_LINES, f"line {i} pension debit", {
+            f"line {i} pension": LIMIT,
+        })
+
+
+def days():
+    group("5 range, dates")
+    early = P54 | {"leaving": (1950, 1, 1), "guarantee": (1955, 1, 1)}
+    vector("birth 31 December 1899", 5, early, {"birth": (1899, 12, 31)})
+    vector("birth 1 January 1900, age 55", only("1,848.00"), early, {"birth": (1900, 1, 1)})
+    late = P54 | {"birth": (2145, 12, 31), "leaving": (2150, 1, 1)}
+    vector("guarantee 31 December 2199", P54_PAID, late, {"guarantee": (2199, 12, 31)})
+    vector("guarantee 1 January 2200", 5, late, {"guarantee": (2200, 1, 1)})
+    vector("leaving 1 January 2200", 5, late, {"leaving": (2200, 1, 1), "guarantee": (2199, 12, 31)})
+    last = P25 | {"birth": (2134, 12, 31), "leaving": (2149, 12, 31), "guarantee": (2149, 12, 31)}
+    vector("line 1 on 31 December 2199, 50 years ahead", only("553.00"), last, {"line 1 date": (2199, 12, 31)})
+    vector("line 1 on 1 January 2200", 5, last, {"line 1 date": (2200, 1, 1)})
+    gmp = P54 | {"flags": 2}
+    vector("state pension date 31 December 1899", 5, gmp, {"state pension date": (1899, 12, 31)})
+    vector("state pension date 1 January 1900", 10, gmp, {"state pension date": (1900, 1, 1)})
+    vector("state pension date 31 December 2199", P54_PAID, gmp, {"state pension date": (2199, 12, 31)})
+    vector("state pension date 1 January 2200", 5, gmp, {"state pension date": (2200, 1, 1)})
+    vector("state pension date zero with GMP", 5, gmp)
+    for name in ("birth", "leaving", "guarantee"):
+        vector(f"{name} zero, kind 1", 5, P54, {name: NO_DATE})
+        vector(f"{name} zero, kind 2", 5, P25, {name: NO_DATE})
+    for i in LINES:
+        vector(f"line {i} date zero", 5, P4, {f"line {i} date": NO_DATE})
+        vector(f"line {i} on 29 February 2041", 5, P4, {f"line {i} date": (2041, 2, 29)})
+    for birth in (
+        (1967, 0, 1), (1967, 13, 1), (1967, 6, 0), (1967, 6, 31), (1967, 12, 32), (1967, 2, 29), (1900, 2, 29),
+        (65535, 255, 255),
+    ):
+        vector(f"birth {birth}", 5, P54, {"birth": birth})
+    for birth in ((1967, 6, 30), (1967, 12, 31), (1968, 2, 29)):
+        vector(f"birth {birth}, age 53", only("1,764.00"), P54, {"birth": birth})
+    vector("guarantee 29 February 2000, age 32", only("1,108.00"), P54, {"guarantee": (2000, 2, 29)})
+    century = P54 | {"birth": (2046, 1, 1), "leaving": (2090, 1, 1)}
+    vector("guarantee 28 February 2100", P54_PAID, century, {"guarantee": (2100, 2, 28)})
+    vector("guarantee 29 February 2100", 5, century, {"guarantee": (2100, 2, 29)})
+
+
+def dates():
+    group("6 dates")
+    vector("kind 1, leaving on the day of birth", 6, P54, {"leaving": (1967, 6, 1)})
+    vector("kind 1, leaving the day after birth", P54_PAID, P54, {"leaving": (1967, 6, 2)})
+    vector("kind 1, leaving the day before birth", 6, P54, {"leaving": (1967, 5, 31)})
+    vector("kind 1, leaving on the guarantee date", P54_PAID, P54, {"leaving": (2021, 6, 1)})
+    vector("kind 1, leaving the day after the guarantee date", 6, P54, {"leaving": (2021, 6, 2)})
+    vector("kind 2, leaving on the day of birth", 6, P25, {"leaving": (1980, 5, 10)})
+    vector("kind 2, leaving the day after birth", P25_PAID, P25, {"leaving": (1980, 5, 11)})
+    vector("kind 2, leaving on the guarantee date", P25_PAID, P25, {"leaving": (2020, 5, 10)})
+    vector("kind 2, leaving the day after the guarantee date", 6, P25, {"leaving": (2020, 5, 11)})
+    vector("line 1 on the 65th birthday", P25_PAID, P25)
+    vector("line 1 the day before the 65th birthday", 6, P25, {"line 1 date": (2045, 5, 9)})
+    vector("born a day later", 6, P25, {"birth": (1980, 5, 11)})
+    vector("born a day earlier", P25_PAID, P25, {"birth": (1980, 5, 9)})
+    # line i is then 25 years ahead too
+    before = {2: "3,852.00", 3: "3,823.00", 4: "3,793.00"}
+    for i in (2, 3, 4):
+        vector(f"line {i} on the date of line 1", 6, P4, {f"line {i} date": (2045, 5, 10)})
+        vector(f"line {i} the day before line 1", only(before[i]), P4, {f"line {i} date": (2045, 5, 9)})
+        vector(f"line {i} a year after line 1", 6, P4, {f"line {i} date": (2046, 5, 10)})
+    leap = P25 | {"birth": (1980, 2, 29), "guarantee": (2020, 3, 1)}
+    vector("born 29 February 1980, line 1 on 28 February 2045", 6, leap, {"line 1 date": (2045, 2, 28)})
+    vector("born 29 February 1980, line 1 on 1 March 2045", P25_PAID, leap, {"line 1 date": (2045, 3, 1)})
+
+
+def entitlement():
+    group("7 status, 8 receiver, 9 service, 10 refer")
+    for label, base in (("kind 1", P54), ("kind 2", P4)):
+        accepted = P54_PAID if base == P54 else P4_PAID
+        for status in (2, 3, 4):
+            vector(f"{label}, status {status}", 7, base, {"status": status})
+        vector(f"{label}, status 1 and receiving scheme 1", accepted, base)
+        for receiver in (2, 3):
+            vector(f"{label}, receiving scheme {receiver}", 8, base, {"receiving scheme": receiver})
+        for months in (0, 1, 2):
+            vector(f"{label}, {months} months", 9, base, {"months": months})
+        for months in (3, 4, 65535):
+            vector(f"{label}, {months} months", accepted, base, {"months": months})
+        for date in ((2016, 4, 5), (2016, 3, 31), (2015, 12, 31)):
+            vector(f"{label}, state pension date {date}", 10, base, {"flags": 2, "state pension date": date})
+        for date in ((2016, 4, 6), (2016, 5, 1), (2017, 1, 1)):
+            vector(f"{label}, state pension date {date}", accepted, base, {"flags": 2, "state pension date": date})
+        vector(f"{label}, no GMP", accepted, base, {"flags": 0})
+
+
+def ages():
+    group("11 age, 12 factor")
+    vector("kind 1, age 21", 12, P54, {"guarantee": (1989, 5, 31)})
+    vector("kind 1, age 22", only("893.00"), P54, {"guarantee": (1989, 6, 1)})
+    vector("kind 1, age 59", only("2,034.00"), P54, {"guarantee": (2027, 5, 31)})
+    vector("kind 1, age 60", 11, P54, {"guarantee": (2027, 6, 1)})
+    vector("kind 1, age 61", 11, P54, {"guarantee": (2028, 6, 1)})
+    vector("kind 1, age 0", 12, P54, {"leaving": (1967, 6, 2), "guarantee": (1967, 6, 2)})
+    older = P25 | {"birth": (1950, 1, 1)}
+    vector("kind 2, line 1 the day before the guarantee date", 11, older, {"line 1 date": (2020, 5, 9)})
+    vector("kind 2, line 1 on the guarantee date", 11, older, {"line 1 date": (2020, 5, 10)})
+    vector("kind 2, line 1 a day ahead", only("1,708.00"), older, {"line 1 date": (2020, 5, 11)})
+    vector("kind 2, line 1 a year ahead", only("1,708.00"), older, {"line 1 date": (2021, 5, 10)})
+    vector("kind 2, line 1 a year and a day ahead", only("1,665.00"), older, {"line 1 date": (2021, 5, 11)})
+    vector("kind 2, line 1 50 years ahead", only("553.00"), older, {"line 1 date": (2070, 5, 10)})
+    vector("kind 2, line 1 50 years and a day ahead", 12, older, {"line 1 date": (2070, 5, 11)})
+    vector("kind 2, line 1 51 years ahead", 12, older, {"line 1 date": (2071, 5, 10)})
+    vector("kind 2, line 1 on 31 December 2199", 12, older, {"line 1 date": (2199, 12, 31)})
+    vector("kind 2, line 1 of four 51 years ahead", 12, P4, {"line 1 date": (2071, 5, 10)})
+    vector("kind 2, line 1 of four 50 years ahead", only("3,506.00"), P4, {"line 1 date": (2070, 5, 10)})
+    a_day_ahead = {2: "4,633.00", 3: "4,604.00", 4: "4,574.00"}
+    for i in (2, 3, 4):
+        vector(f"kind 2, line {i} on the guarantee date", 11, P4, {f"line {i} date": (2020, 5, 10)})
+        vector(f"kind 2, line {i} before the guarantee date", 11, P4, {f"line {i} date": (2019, 5, 10)})
+        vector(f"kind 2, line {i} a day ahead", only(a_day_ahead[i]), P4, {f"line {i} date": (2020, 5, 11)})
+
+
+def leap_days():
+    group("29 February")
+    born = P54 | {"birth": (1968, 2, 29)}
+    vector("on 28 February 2020: 51", only("1,685.00"), born, {"guarantee": (2020, 2, 28)})
+    vector("on 29 February 2020: 52", only("1,724.00"), born, {"guarantee": (2020, 2, 29)})
+    vector("on 28 February 2022: 53", only("1,764.00"), born, {"guarantee": (2022, 2, 28)})
+    vector("on 1 March 2022: 54", only("1,805.00"), born, {"guarantee": (2022, 3, 1)})
+    vector("on 28 February 1990: 21", 12, born, {"guarantee": (1990, 2, 28)})
+    vector("on 1 March 1990: 22", only("893.00"), born, {"guarantee": (1990, 3, 1)})
+    vector("on 28 February 2028: 59", only("2,034.00"), born, {"guarantee": (2028, 2, 28)})
+    vector("on 29 February 2028: 60", 11, born, {"guarantee": (2028, 2, 29)})
+    guarantee = P25 | {"birth": (1970, 1, 1), "guarantee": (2020, 2, 29)}
+    vector("to 29 February 2044: 24", only("955.00"), guarantee, {"line 1 date": (2044, 2, 29)})
+    vector("to 1 March 2044: 25", only("927.00"), guarantee, {"line 1 date": (2044, 3, 1)})
+    vector("to 28 February 2045: 25", only("927.00"), guarantee, {"line 1 date": (2045, 2, 28)})
+    vector("to 1 March 2045: 25", only("927.00"), guarantee, {"line 1 date": (2045, 3, 1)})
+    vector("to 2 March 2045: 26", only("908.00"), guarantee, {"line 1 date": (2045, 3, 2)})
+    to_leap_day = P25 | {"birth": (1970, 1, 1), "line 1 date": (2044, 2, 29)}
+    vector("28 February 2019 to 29 February 2044: 26", only("908.00"), to_leap_day, {"guarantee": (2019, 2, 28)})
+    vector("1 March 2019 to 29 February 2044: 25", only("927.00"), to_leap_day, {"guarantee": (2019, 3, 1)})
+
+
+def debits():
+    group("13 debit")
+    vector("pension 100p, debit 99p", paid("0", pension="0.1805"), AGED_54, {
+        "line 1 pension": 100, "line 1 pension debit": 99,
+    })
+    both = AGED_54 | {"line 1 pension": 60, "line 1 additional pension": 40}
+    vector("pension 60p and additional 40p, debit 100p", paid("0"), both, {"line 1 pension debit": 100})
+    vector("pension 60p and additional 40p, debit 101p", 13, both, {"line 1 pension debit": 101})
+    vector("lump sum 100p, debit 100p", paid("0"), AGED_54, {"line 1 lump sum": 100, "line 1 lump sum debit": 100})
+    vector("lump sum 100p, debit 101p", 13, AGED_54, {"line 1 lump sum": 100, "line 1 lump sum debit": 101})
+    at = AGED_54 | {"revaluation": 10_660}
+    for name in ("pension", "lump sum"):
+        vector(f"{name} 84,375p at 1.0660, debit 89,944p", paid("0"), at, {
+            f"line 1 {name}": 84_375, f"line 1 {name} debit": 89_944,
+        })
+        vector(f"{name} 84,375p at 1.0660, debit 89,945p", 13, at, {
+            f"line 1 {name}": 84_375, f"line 1 {name} debit": 89_945,
+        })
+    vector("pension debit on a lump sum", 13, AGED_54, {"line 1 lump sum": 100_00, "line 1 pension debit": 1})
+    vector("lump sum debit on a pension", 13, P54, {"line 1 lump sum debit": 1})
+    vector("pension debit on a survivor's pension", 13, AGED_54, {"line 1 survivor": 100_00, "line 1 pension debit": 1})
+    vector("survivor's part is not reduced", paid("150.00", survivor="150.00"), P54, {
+        "line 1 pension debit": 100_00, "line 1 survivor": 100_00,
+    })
+    # 100.00 less 30.00 at 18.05, 100.00 less 40.00 at 0.88, 100.00 at 1.50
+    vector("each debit off its own benefit", paid("1,466.00", pension="1,263.50", lump="52.80", survivor="150.00"), P54, {
+        "line 1 lump sum": 100_00, "line 1 survivor": 100_00, "line 1 pension debit": 30_00, "line 1 lump sum debit": 40_00,
+    })
+    without = {1: "2,953.00", 2: "2,925.00", 3: "2,896.00", 4: "2,866.00"}
+    for i in LINES:
+        vector(f"kind 2, line {i}, debit of all", only(without[i]), P4, {f"line {i} pension debit": 100_00})
+        vector(f"kind 2, line {i}, debit a penny above", 13, P4, {f"line {i} pension debit": 100_01})
+        vector(f"kind 2, line {i}, debit on no pension", 13, P4, {f"line {i} pension": 0, f"line {i} pension debit": 1})
+    vector("kind 2, 1p at 1.5000 on line 4, debit 2p", paid("0"), FOUR_LINES, {
+        "revaluation": 15_000, "line 4 pension": 1, "line 4 pension debit": 2,
+    })
+    vector("kind 2, 1p at 1.5000 on line 4, debit 3p", 13, FOUR_LINES, {
+        "revaluation": 15_000, "line 4 pension": 1, "line 4 pension debit": 3,
+    })
+
+
+def negative():
+    """Amounts of pension, lump sum, survivor and modification at 18.05, 0.88, 1.50 and 12.42."""
+    group("14 negative")
+
+    def of(pension, lump, survivor, modification):
+        return AGED_54 | {
+            "line 1 pension": pension, "line 1 lump sum": lump, "line 1 survivor": survivor,
+            "line 1 modification": modification,
+        }
+
+    vector("1,242p pension, 1,805p modification: 0", paid("0", pension="224.1810", deduct="224.1810"), of(1242, 0, 0, 1805))
+    vector("a penny more of modification", 14, of(1242, 0, 0, 1806))
+    # 15.84 + 9.00 - 24.84 pence
+    vector("lump sum and survivor: 0", paid("0", lump="0.1584", survivor="0.0900", deduct="0.2484"), of(0, 18, 6, 2))
+    # 18.05 + 5.28 + 1.50 - 24.84 pence
+    vector("a hundredth of a penny below zero", 14, of(1, 6, 1, 2))
+    # 54.15 + 0.88 + 19.50 - 74.52 pence
+    vector("a hundredth of a penny above zero", paid(
+        "0", pension="0.5415", lump="0.0088", survivor="0.1950", deduct="0.7452",
+    ), of(3, 1, 13, 6))
+    vector("below zero, with an AVC", 14, of(0, 0, 0, 1) | {"AVC": 100_00})
+    vector("far below zero", 14, of(0, LIMIT, LIMIT, LIMIT))
+    vector("nothing at all, kind 1", paid("0"), of(0, 0, 0, 0))
+    vector("nothing at all, kind 2", paid("0"), FOUR_LINES)
+    vector("nothing but an AVC", paid("0.01", avc="0.01"), of(0, 0, 0, 0) | {"AVC": 1})
+
+
+def rounding():
+    group("rounding")
+    for pence, pay, item in ((87, "8.06", "8.0649"), (50, "4.64", "4.6350"), (13, "1.21", "1.2051")):
+        vector(f"kind 2, {pence}p, {item} pounds", paid(pay, pension=item), AHEAD_25, {"line 1 pension": pence})
+    # 50 at 9.27 and 3 at 1.33; 50 at 9.27 and 100 at 1.33
+    vector("kind 2, pension and survivor, 467.49", paid("4.67", pension="4.6350", survivor="0.0399"), AHEAD_25, {
+        "line 1 pension": 50, "line 1 survivor": 3,
+    })
+    vector("kind 2, pension and survivor, 596.50", paid("5.97", pension="4.6350", survivor="1.3300"), AHEAD_25, {
+        "line 1 pension": 50, "line 1 survivor": 100,
+    })
+    # kind 1: pence of lump sum, survivor and pension at 0.88, 1.50 and 18.05, in hundredths of a penny 4900, 4950, ..
+    for total, pay, pension, lump, survivor, modification in (
+        ("49.00", "0", 0, 25, 18, 0),
+        ("49.50", "1.00", 0, 0, 33, 0),
+        ("50.00", "1.00", 0, 50, 4, 0),
+        ("149.00", "1.00", 0, 125, 26, 0),
+        ("149.49", "1.00", 1, 88, 36, 0),
+        ("149.50", "2.00", 0, 100, 41, 0),
+        ("150.00", "2.00", 0, 0, 100, 0),
+        ("149.49 with a deduction", "1.00", 1, 97, 39, 1),
+        ("149.50 with a deduction", "2.00", 0, 184, 0, 1),
+    ):
+        stated = {
+            "pension": "0.1805" if pension else "0",
+            "lump": f"{lump * 88}/10000",
+            "survivor": f"{survivor * 150}/10000",
+            "deduct": "0.1242" if modification else "0",
+        }
+        vector(f"kind 1, whole pounds of {total} pence", paid(pay, **stated), AGED_54, {
+            "line 1 pension": pension, "line 1 lump sum": lump, "line 1 survivor": survivor,
+            "line 1 modification": modification,
+        })
+    low, half = {"revaluation": 14_999}, {"revaluation": 15_000}
+    vector("1p pension at 1.4999", paid("0.09", pension="0.0927"), AHEAD_25, low | {"line 1 pension": 1})
+    vector("1p survivor at 1.4999", paid("0.01", survivor="0.0133"), AHEAD_25, low | {"line 1 survivor": 1})
+    vector("1p survivor at 1.5000", paid("0.03", survivor="0.0266"), AHEAD_25, half | {"line 1 survivor": 1})
+    vector("1p lump sum at 1.4999", paid("0", lump="0.0088"), AGED_54, low | {"line 1 lump sum": 1})
+    vector("1p lump sum at 1.5000", paid("0", lump="0.0176"), AGED_54, half | {"line 1 lump sum": 1})
+    vector("1p and 1p additional at 1.5000 are 3p", paid("0.28", pension="0.2781"), AHEAD_25, half | {
+        "line 1 pension": 1, "line 1 additional pension": 1,
+    }, wrong="0.37")
+    vector("1p and 1p dependant's at 1.5000 are 3p", paid("0.04", survivor="0.0399"), AHEAD_25, half | {
+        "line 1 survivor": 1, "line 1 dependant's additional": 1,
+    }, wrong="0.05")
+    # 2p on each line, at 9.27 + 9.55 + 9.84 + 10.14
+    vector("1p at 1.5000 on each of four lines is 2p on each", paid("0.78", pension="0.7760"), FOUR_LINES, half | {
+        f"line {i} pension": 1 for i in LINES
+    }, wrong="0.58")
+    # 9,999p at 1.2345 is 12,343.7655 pence; 10,001p is 12,346.2345
+    vector("9,999p at 1.2345", paid("1,144.29", pension="1,144.2888"), AHEAD_25, {
+        "revaluation": 12_345, "line 1 pension": 9_999,
+    })
+    vector("10,001p at 1.2345", paid("1,144.47", pension="1,144.4742"), AHEAD_25, {
+        "revaluation": 12_345, "line 1 pension": 10_001,
+    })
+
+
+def several_lines():
+    group("lines")
+    for i, pounds in {1: "927.00", 2: "955.00", 3: "984.00", 4: "1,014.00"}.items():
+        vector(f"pension on line {i} alone", only(pounds), FOUR_LINES, {f"line {i} pension": 100_00})
+    for i, pounds in {1: "133.00", 2: "135.00", 3: "136.00", 4: "138.00"}.items():
+        vector(f"survivor on line {i} alone", paid(pounds, survivor=pounds), FOUR_LINES, {f"line {i} survivor": 100_00})
+    # 927 + 1,910 + 2,952 + 4,056, and 13.30 + 27.00 + 40.80 + 55.20
+    amounts = {f"line {i} pension": i * 100_00 for i in LINES} | {f"line {i} survivor": i * 10_00 for i in LINES}
+    items_paid = {"pension": "9,845.00", "survivor": "136.30"}
+    vector("four lines", paid("9,981.30", **items_paid), FOUR_LINES, amounts)
+    four = FOUR_LINES | amounts
+    names = ["date"] + AMOUNTS
+    for order in ((2, 4, 3), (3, 2, 4), (3, 4, 2), (4, 2, 3), (4, 3, 2)):
+        moved = {f"line {to} {name}": four[f"line {start} {name}"] for to, start in zip((2, 3, 4), order) for name in names}
+        vector(f"lines in the order 1 {order}", paid("9,981.30", **items_paid), four, moved)
+    # 90, 180, 270 and 360 pounds: 834.30 + 1,719.00 + 2,656.80 + 3,650.40
+    vector("four lines with debits", paid("8,996.80", pension="8,860.50", survivor="136.30"), four, {
+        f"line {i} pension debit": i * 10_00 for i in LINES
+    })
+    vector("four lines on two days", only("3,708.00"), P4, {f"line {i} date": (2044, 5, 11) for i in (2, 3, 4)})
+    # 18,160 + 27,810 and 884.25 + 1,346.625
+    vector("003, D, its first two lines", paid("48,200.88", pension="45,970.00", survivor="2,230.8750"), D_003, {
+        "count": 2, "line 3 date": NO_DATE, "line 3 pension": 0, "line 3 survivor": 0,
+    })
+    swapped = {f"line {to} {name}": D_003[f"line {5 - to} {name}"] for to in (2, 3) for name in names}
+    vector("003, D, its reduced ages in the other order", paid("104,845.38", **D_PAID), D_003, swapped)
+
+
+def largest():
+    group("largest")
+    oldest = AGED_54 | {"guarantee": (2027, 5, 31), "revaluation": 100_000, "AVC": LIMIT}
+    oldest |= {f"line 1 {name}": LIMIT for name in AMOUNTS[:5]}
+    survivor, avc = "308,000,000.00", "10,000,000.00"
+    vector("kind 1, age 59, every benefit", paid(
+        "4,485,000,000.00", pension="4,068,000,000.00", lump="99,000,000.00", survivor=survivor, avc=avc,
+    ), oldest)
+    vector("kind 1, age 59, and modification", paid(
+        "4,341,300,000.00", pension="4,068,000,000.00", lump="99,000,000.00", survivor=survivor,
+        deduct="143,700,000.00", avc=avc,
+    ), oldest, {"line 1 modification": LIMIT})
+    # 190,000,000 at 20.34 and 90,000,000 at 0.99
+    vector("kind 1, age 59, every amount", paid(
+        "4,128,000,000.00", pension="3,864,600,000.00", lump="89,100,000.00", survivor=survivor,
+        deduct="143,700,000.00", avc=avc,
+    ), oldest, {f"line 1 {name}": LIMIT for name in AMOUNTS})
+    nearest_dates = FOUR_LINES | {"birth": (1950, 1, 1), "revaluation": 100_000, "AVC": LIMIT, "flags": 1}
+    nearest_dates |= {"transfer-in": LIMIT, "own contributions": LIMIT}
+    nearest_dates |= {f"line {i} {name}": LIMIT for i in LINES for name in ("pension", "survivor")}
+    nearest_dates |= {"line 1 additional pension": LIMIT, "line 1 dependant's additional": LIMIT}
+    a_year = {f"line {i} date": (2021, 5, 11 - i) for i in LINES}
+    # 500,000,000 pounds of each
+    vector("kind 2, four lines a year ahead", paid(
+        "9,350,000,000.00", pension="8,540,000,000.00", survivor="800,000,000.00", underpin="20,000,000.00", avc=avc,
+    ), nearest_dates, a_year)
+    vector("kind 2, four lines four years ahead", paid(
+        "8,675,000,000.00", pension="7,860,000,000.00", survivor="805,000,000.00", underpin="20,000,000.00", avc=avc,
+    ), nearest_dates, {f"line {i} date": (2024, 5, 11 - i) for i in LINES})
+    # 460,000,000 at 17.08
+    vector("kind 2, and every debit", paid(
+        "8,666,800,000.00", pension="7,856,800,000.00", survivor="800,000,000.00", underpin="20,000,000.00", avc=avc,
+    ), nearest_dates, a_year | {f"line {i} pension debit": LIMIT for i in LINES})
+
+
+def underpin():
+    group("underpin")
+    flagged = B_003 | {"flags": 1, "transfer-in": 20_000_00}
+    vector("a penny below the gross value", paid("25,900.81", underpin="25,900.80", **B_PAID), flagged, {
+        "own contributions": 5_900_80,
+    })
+    vector("transfer-in alone, equal", paid("25,900.81", underpin="25,900.81", **B_PAID), flagged, {
+        "transfer-in": 25_900_81,
+    })
+    vector("transfer-in alone, above", paid("25,900.82", underpin="25,900.82", **B_PAID), flagged, {
+        "transfer-in": 25_900_82,
+    })
+    vector("own contributions alone, above", paid("30,000.00", underpin="30,000.00", **B_PAID), flagged, {
+        "transfer-in": 0, "own contributions": 30_000_00,
+    })
+    vector("the flag and nothing in", paid("25,900.81", **B_PAID), flagged, {"transfer-in": 0})
+    vector("GMP without a transfer in", paid("25,900.81", **B_PAID), B_003, {
+        "flags": 2, "state pension date": (2045, 1, 6), "own contributions": 30_000_00,
+    })
+    vector("GMP and a transfer in", paid("30,000.00", underpin="30,000.00", **B_PAID), flagged, {
+        "flags": 3, "state pension date": (2045, 1, 6), "own contributions": 10_000_00,
+    })
+    vector("no benefit at all", paid("0.02", underpin="0.02"), AHEAD_25, {
+        "flags": 1, "transfer-in": 1, "own contributions": 1,
+    })
+    vector("above the gross value of three lines", paid("104,845.39", underpin="104,845.39", **D_PAID), D_003, {
+        "flags": 1, "transfer-in": 100_000_00, "own contributions": 4_845_39,
+    })
+
+
+def voluntary_fund():
+    group("AVC")
+    vector("kind 1, not rounded to whole pounds", paid("136,869.49", pension="117,921.60", lump="14,364.00",
+           survivor="4,817.9250", deduct="234.60", avc="0.49"), A_001, {"AVC": 49}, wrong="136,869.00")
+    # 149 pence and 1 penny
+    vector("kind 1, added after rounding", paid("1.01", lump="1.10", survivor="0.39", avc="0.01"), AGED_54, {
+        "line 1 lump sum": 125, "line 1 survivor": 26, "AVC": 1,
+    }, wrong="2.00")
+    vector("kind 2, added to the gross value", paid("26,000.80", avc="99.99", **B_PAID), B_003, {"AVC": 99_99})
+    flagged = B_003 | {"flags": 1, "transfer-in": 20_000_00}
+    vector("kind 2, added after the underpin", paid("26,500.00", underpin="26,000.00", avc="500.00", **B_PAID), flagged, {
+        "own contributions": 6_000_00, "AVC": 500_00,
+    }, wrong="26,400.81")
+    vector("kind 2, added to a larger gross value", paid(
+        "26,400.81", underpin="20,000.00", avc="500.00", **B_PAID,
+    ), flagged, {"AVC": 500_00})
+
+
+# One change for each refusal; any of them may be made together but 11 and 12 of kind 1, which are both of age.
+KIND_1_FAULTS = {
+    3: {"count": 2},
+    4: {"own contributions": 1},
+    5: {"case number": 0},
+    6: {"leaving": (2021, 6, 2)},
+    7: {"status": 2},
+    8: {"receiving scheme": 2},
+    9: {"months": 2},
+    10: {"flags": 2, "state pension date": (2016, 4, 5)},
+    11: {"birth": (1961, 6, 1)},
+    12: {"birth": (2000, 1, 1)},
+    13: {"line 1 lump sum debit": 1},
+    14: {"line 1 modification": 200_00},
+}
+KIND_2_FAULTS = {
+    3: {"count": 5},
+    4: {"line 4 lump sum": 1},
+    5: {"case number": 0},
+    6: {"leaving": (2020, 5, 11)},
+    7: {"status": 2},
+    8: {"receiving scheme": 2},
+    9: {"months": 2},
+    10: {"flags": 2, "state pension date": (2016, 4, 5)},
+    11: {"line 4 date": (2020, 5, 10)},
+    12: {"line 1 date": (2070, 5, 11)},
+    13: {"line 3 pension debit": 100_01},
+}
+
+
+def order():
+    group("order")
+    sets = (("kind 1", P54 | {"leaving": (2021, 6, 1)}, KIND_1_FAULTS), ("kind 2", P4, KIND_2_FAULTS))
+    for label, base, faults in sets:
+        for first in faults:
+            vector(f"{label}, {first} alone", first, base, faults[first])
+            for second in range(first + 1, max(faults) + 1):
+                if (label, first, second) != ("kind 1", 11, 12):
+                    vector(f"{label}, {first} before {second}", first, base, faults[first] | faults[second])
+        for first in faults:
+            several = {}
+            for number in faults:
+                if number >= first and (label, first <= 11, number) != ("kind 1", True, 12):
+                    several |= faults[number]
+            vector(f"{label}, {first} and all that follow", first, base, several)
+    # Age 60 has no row either; neither have lines on the guarantee date.
+    vector("kind 1, age 60 has no row", 11, P54, KIND_1_FAULTS[11])
+    vector("kind 2, no line has a row", 11, P25, {"birth": (1950, 1, 1), "line 1 date": (2020, 5, 10)})
+    # An absent row counts with the other lines' debits, and the other way about.
+    vector("kind 2, no row on line 1 and a debit on line 4", 12, P4, KIND_2_FAULTS[12] | {"line 4 pension debit": 100_01})
+    vector("kind 1, an excess debit is not a negative total", 13, AGED_54, {"line 1 pension debit": 1})
+    vector("status not listed and receiver 2", 5, P54, {"status": 5, "receiving scheme": 2})
+    vector("status 2 and receiver not listed", 5, P54, {"status": 2, "receiving scheme": 4})
+
+
+def main():
+    commands = ("stdin", "stdout", "list")
+    if len(sys.argv) != 2 or sys.argv[1] not in commands:
+        sys.stderr.write(f"usage: vectors.py {'|'.join(commands)}\n")
+        return 2
+    for vectors in (
+        figures_at_the_edges, examples, clerks, every_row, kind, flags, reserved_amounts, codes, amounts, days, dates,
+        entitlement, ages, leap_days, debits, negative, rounding, several_lines, largest, underpin, voluntary_fund, order,
+    ):
+        vectors()
+    if FAULTS:
+        sys.stderr.write("".join(f"{fault}\n" for fault in FAULTS))
+        return 1
+    out = sys.stdout.buffer
+    for place, (at, label, expectation, case) in enumerate(VECTORS, start=1):
+        if sys.argv[1] == "stdin":
+            out.write(record(case))
+        elif sys.argv[1] == "list":
+            out.write(f"{place}\t{at}: {label}\t{text(expectation)}\n".encode())
+        else:
+            out.write(f"{place} {case['case number']} {text(expectation)}\n".encode())
+    return 0
+
+
+if __name__ == "__main__":
+    sys.exit(main())
