@@ -1,0 +1,4 @@
+pub mod Decimal
+pub mod Forming
+pub mod Lines
+pub mod Figures

@@ -1,0 +1,44 @@
+-- The lines of a report.
+-- Assumes nothing.
+use Prim.Native.Nat.{ℕ}
+use mathlib.Core.List.{List, _++_}
+use Rattle.buffers.specs.Text.{ascii}
+use Rattle.cases.specs.Refusals.{numberOf, nameOf}
+use Rattle.cases.specs.declared.Refusal.{Refusal}
+use Rattle.valuing.specs.declared.Answer.{Answer}
+use Rattle.valuing.specs.declared.Items.{Items}
+use Rattle.valuing.specs.declared.Outcome.{Outcome}
+use Rattle.valuing.specs.declared.Outcome.the-variants.{Paid, Refused}
+use Rattle.report.specs.Decimal.{decimal, item}
+
+-- the first line
+abbrev pub header : List ℕ
+header = ascii "transfer values\n"
+
+-- a payment with its items: payment, underpin and AVC are pounds with two decimals, the other items pounds with four
+unfoldable pub paidText : Items → List ℕ
+paidText i =
+    item (ascii " pay ") 2 (i .payment) ++
+    item (ascii " pension ") 4 (i .pension) ++
+    item (ascii " lump ") 4 (i .lump) ++
+    item (ascii " survivor ") 4 (i .survivor) ++
+    item (ascii " deduct ") 4 (i .deduction) ++
+    item (ascii " underpin ") 2 (i .underpin) ++
+    item (ascii " avc ") 2 (i .avc) ++
+    ascii "\n"
+
+-- a refusal with its number and name
+unfoldable pub refusedText : Refusal → List ℕ
+refusedText r = ascii " refused " ++ decimal (numberOf r) ++ ascii " " ++ nameOf r ++ ascii "\n"
+
+abbrev pub outcomeText : Outcome → List ℕ
+outcomeText (Paid i) = paidText i
+outcomeText (Refused r) = refusedText r
+
+-- the line of a block: its place, the case number, and the outcome
+unfoldable pub lineOf : ℕ → Answer → List ℕ
+lineOf place a = decimal place ++ ascii " " ++ decimal (a .number) ++ outcomeText (a .outcome)
+
+-- the last line: the count of blocks read and of those paid
+unfoldable pub endLine : ℕ → ℕ → List ℕ
+endLine blocks paid = ascii "end " ++ decimal blocks ++ ascii " blocks " ++ decimal paid ++ ascii " paid\n"
