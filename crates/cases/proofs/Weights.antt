@@ -1,4 +1,4 @@
--- The weights of the check, counted from 1.
+-- The weights of half a block, counted from 1.
 -- Assumes nothing.
 use Prim.Native.Nat.{ℕ, zero, suc, _+_, _<_}
 use mathlib.Core.List.{List, [], _∷_}
@@ -15,5 +15,5 @@ at zero from k h = absurd (omega arith)
 at (suc n) from zero h = omega arith
 at (suc n) from (suc k) h = omega (arith, at n (suc from) k (omega arith))
 
-pub weight : (k : ℕ) → k < 508 → getD (counted 1 508) k 0 ≡ k + 1
-weight k h = at 508 1 k h
+pub weight : (k : ℕ) → k < 254 → getD (counted 1 254) k 0 ≡ k + 1
+weight k h = at 254 1 k h

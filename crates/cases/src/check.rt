@@ -1,12 +1,13 @@
-// The check of a block.
+// The check of a block, from the sums of its two halves of 254 bytes.
 ghost use mathlib.Core.Path.{_≡_};
 ghost use Prim.Native.Nat.{ℕ, _+_, _<_, _≤_};
 ghost use lib.ListN.{length, getD};
 ghost use Rattle.cases.specs.Block as block;
+ghost use Rattle.cases.specs.Halves.{SumsBelow};
 
-// The weight of each position. Weights of 16 bits from a table are multiplied several at a time, which those that the loop
+// The weights of a half. A weight and a byte of eight bits each are multiplied many at a time, which weights that the loop
 // counts are not.
-const WEIGHTS: [u16; 508] = [
+const WEIGHTS: [u8; 254] = [
     1,
     2,
     3,
@@ -261,261 +262,13 @@ const WEIGHTS: [u16; 508] = [
     252,
     253,
     254,
-    255,
-    256,
-    257,
-    258,
-    259,
-    260,
-    261,
-    262,
-    263,
-    264,
-    265,
-    266,
-    267,
-    268,
-    269,
-    270,
-    271,
-    272,
-    273,
-    274,
-    275,
-    276,
-    277,
-    278,
-    279,
-    280,
-    281,
-    282,
-    283,
-    284,
-    285,
-    286,
-    287,
-    288,
-    289,
-    290,
-    291,
-    292,
-    293,
-    294,
-    295,
-    296,
-    297,
-    298,
-    299,
-    300,
-    301,
-    302,
-    303,
-    304,
-    305,
-    306,
-    307,
-    308,
-    309,
-    310,
-    311,
-    312,
-    313,
-    314,
-    315,
-    316,
-    317,
-    318,
-    319,
-    320,
-    321,
-    322,
-    323,
-    324,
-    325,
-    326,
-    327,
-    328,
-    329,
-    330,
-    331,
-    332,
-    333,
-    334,
-    335,
-    336,
-    337,
-    338,
-    339,
-    340,
-    341,
-    342,
-    343,
-    344,
-    345,
-    346,
-    347,
-    348,
-    349,
-    350,
-    351,
-    352,
-    353,
-    354,
-    355,
-    356,
-    357,
-    358,
-    359,
-    360,
-    361,
-    362,
-    363,
-    364,
-    365,
-    366,
-    367,
-    368,
-    369,
-    370,
-    371,
-    372,
-    373,
-    374,
-    375,
-    376,
-    377,
-    378,
-    379,
-    380,
-    381,
-    382,
-    383,
-    384,
-    385,
-    386,
-    387,
-    388,
-    389,
-    390,
-    391,
-    392,
-    393,
-    394,
-    395,
-    396,
-    397,
-    398,
-    399,
-    400,
-    401,
-    402,
-    403,
-    404,
-    405,
-    406,
-    407,
-    408,
-    409,
-    410,
-    411,
-    412,
-    413,
-    414,
-    415,
-    416,
-    417,
-    418,
-    419,
-    420,
-    421,
-    422,
-    423,
-    424,
-    425,
-    426,
-    427,
-    428,
-    429,
-    430,
-    431,
-    432,
-    433,
-    434,
-    435,
-    436,
-    437,
-    438,
-    439,
-    440,
-    441,
-    442,
-    443,
-    444,
-    445,
-    446,
-    447,
-    448,
-    449,
-    450,
-    451,
-    452,
-    453,
-    454,
-    455,
-    456,
-    457,
-    458,
-    459,
-    460,
-    461,
-    462,
-    463,
-    464,
-    465,
-    466,
-    467,
-    468,
-    469,
-    470,
-    471,
-    472,
-    473,
-    474,
-    475,
-    476,
-    477,
-    478,
-    479,
-    480,
-    481,
-    482,
-    483,
-    484,
-    485,
-    486,
-    487,
-    488,
-    489,
-    490,
-    491,
-    492,
-    493,
-    494,
-    495,
-    496,
-    497,
-    498,
-    499,
-    500,
-    501,
-    502,
-    503,
-    504,
-    505,
-    506,
-    507,
-    508,
 ];
+
+// The sum of some bytes, and the sum of (position + 1) times the byte.
+struct Sums {
+    pub plain: u32,
+    pub weighted: u32,
+}
 
 fn widened(x: u8) -> u32
     ensures { λ r. ⌜ (r ≡ x) × (r ≤ 255) ⌝ }
@@ -523,25 +276,32 @@ fn widened(x: u8) -> u32
     x as u32
 }
 
-fn weighted(b: &[u8], weights: &[u16; 508]) -> u32
-    requires { ⌜ 508 ≤ length (now b) ⌝ }
-    requires { ⌜ ((k : ℕ) → k < 508 → getD (now weights) k 0 ≡ k + 1) ⌝ }
-    ensures { λ r. ⌜ r ≡ block.checksum (now (b .entry)) ⌝ }
+// Those of the 254 bytes from an index on.
+fn half_sums(b: &[u8], at: usize, weights: &[u8; 254]) -> Sums
+    requires { ⌜ at + 254 ≤ length (now b) ⌝ }
+    requires { ⌜ ((k : ℕ) → k < 254 → getD (now weights) k 0 ≡ k + 1) ⌝ }
+    ensures { λ r. ⌜ SumsBelow (now (b .entry)) at 254 (r .plain) (r .weighted) ⌝ }
 {
-    let mut sum: u32 = 0;
+    let mut plain: u32 = 0;
+    let mut weighted: u32 = 0;
     let mut i: usize = 0;
-    while i < 508 {
-        sum += weights[i] as u32 * widened(b[i]);
+    while i < 254 {
+        let byte = widened(b[at + i]);
+        plain += byte;
+        weighted += widened(weights[i]) * byte;
         i += 1;
     }
-    sum
+    Sums { plain, weighted }
 }
 
-// The sum of (position + 1) times the byte over the first 508 bytes.
+// The sum of (position + 1) times the byte over the first 508 bytes: the weights of the second half are 254 more than those of
+// the first.
 pub(crate) fn checksum(b: &[u8]) -> u32
     requires { ⌜ 508 ≤ length (now b) ⌝ }
     ensures { λ r. ⌜ r ≡ block.checksum (now (b .entry)) ⌝ }
 {
     let weights = WEIGHTS;
-    weighted(b, &weights)
+    let first = half_sums(b, 0, &weights);
+    let second = half_sums(b, 254, &weights);
+    first.weighted + second.weighted + 254 * second.plain
 }

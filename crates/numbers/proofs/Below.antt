@@ -1,8 +1,9 @@
 -- The laws of sums and of any, over the numbers below n.
 -- Assumes nothing.
-use Prim.Native.Nat.{ℕ, zero, suc, _+_, _≤_, _<_}
+use Prim.Native.Nat.{ℕ, zero, suc, _+_, _*_, _≤_, _<_}
 use mathlib.Core.Path.{_≡_, refl}
 use mathlib.Core.Bool.{Bool, false, _||_}
+use native.Mathlib.Nat.{add-zero, add-suc, mul-add}
 use native.Mathlib.Numerals.{add-one}
 use native.Mathlib.Decide.{ℕ-discrete}
 use native.Mathlib.Omega.{arith}
@@ -61,3 +62,19 @@ sum-at (suc n) g h k i p o e = go (ℕ-discrete i n) (λ q. sum-at n g h k i q o
     go : Dec (i ≡ n) → (i < n → sumBelow n h ≡ sumBelow n g + k) → sumBelow n h + h n ≡ sumBelow n g + g n + k
     go (yes q) rest = omega (arith, sum-same n g h (λ j r. o j (omega arith)), rw q at e)
     go (no q) rest = omega (arith, rest (omega arith), o n (omega arith))
+
+-- a sum in two parts; a sum of sums; a factor taken out
+pub sum-split : (m n : ℕ) (g : ℕ → ℕ) → sumBelow (m + n) g ≡ sumBelow m g + sumBelow n (λ j. g (m + j))
+unfolding sumBelow
+sum-split m zero g = rw add-zero (omega arith)
+sum-split m (suc n) g = rw add-suc (omega (arith, sum-split m n g))
+
+pub sum-plus : (n : ℕ) (g h : ℕ → ℕ) → sumBelow n (λ j. g j + h j) ≡ sumBelow n g + sumBelow n h
+unfolding sumBelow
+sum-plus zero g h = refl
+sum-plus (suc n) g h = omega (arith, sum-plus n g h)
+
+pub sum-times : (n k : ℕ) (g : ℕ → ℕ) → sumBelow n (λ j. k * g j) ≡ k * sumBelow n g
+unfolding sumBelow
+sum-times zero k g = omega arith
+sum-times (suc n) k g = rw mul-add (omega (arith, sum-times n k g))
