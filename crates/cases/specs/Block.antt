@@ -1,10 +1,10 @@
 -- The case that a block holds, its check, and the bytes that no field names.
 -- Assumes nothing.
 use Prim.Native.Nat.{ℕ, _+_, _*_, _/_, _%_}
-use mathlib.Core.Bool.{Bool, false, not, _||_}
+use mathlib.Core.Bool.{Bool, false, cond, not, _||_}
 use mathlib.Core.List.{List, [], _∷_}
-use lib.Dec.{eqb}
-use lib.ListN.{getD}
+use lib.Dec.{eqb, ltb}
+use lib.ListN.{length, getD}
 use Rattle.numbers.specs.Below.{sumBelow, anyBelow}
 use Rattle.buffers.specs.Bytes.{numberAt}
 use Rattle.calendar.specs.declared.Date.{Date}
@@ -66,6 +66,10 @@ zeroCase = caseBy (λ e. 0)
 -- the check: the sum over bytes 0 to 507 of (position + 1) times the byte
 unfoldable pub checksum : List ℕ → ℕ
 checksum s = sumBelow 508 (λ p. (p + 1) * getD s p 0)
+
+-- the same of any bytes: 0 where there are fewer than 508
+unfoldable pub checkOf : List ℕ → ℕ
+checkOf s = cond (ltb (length s) 508) 0 (checksum s)
 
 -- whether a byte of a field's place is not zero
 unfoldable pub nonzero : List ℕ → Field → Bool

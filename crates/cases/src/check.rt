@@ -305,3 +305,10 @@ pub(crate) fn checksum(b: &[u8]) -> u32
     let second = half_sums(b, 254, &weights);
     first.weighted + second.weighted + 254 * second.plain
 }
+
+// The check that a block of these bytes must have; 0 where there are fewer than 508.
+pub fn block_check(b: &[u8]) -> u32
+    ensures { λ r. ⌜ r ≡ block.checkOf (now (b .entry)) ⌝ }
+{
+    if b.len() < 508 { 0 } else { checksum(b) }
+}

@@ -7,6 +7,7 @@ mod refusals;
 
 pub use block::read_block;
 use calendar::Date;
+pub use check::block_check;
 pub use form::form_verdict;
 pub use refusals::refusal_name;
 pub use refusals::refusal_number;

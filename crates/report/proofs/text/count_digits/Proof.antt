@@ -10,8 +10,6 @@ use lib.ListN.{length}
 use Rattle.report.specs.Decimal.{decimal}
 use Rattle.report.proofs.Decimal.{decimal-short, decimal-long, decimal-some}
 use borrow.Author.Needs.{needs}
-use mathlib.Core.Path.{_≡_, refl, ap, _∙_}
-use Rattle.report.proofs.Decimal.{decimal-short, decimal-long}
 use Rattle.report.proofs.text.count_digits.Statement.{statement}
 use Rattle.report.proofs.text.count_digits.Tie as tie
 

@@ -1,0 +1,21 @@
+-- `block_check` meets its contract.
+-- Assumes nothing.
+use borrow.Author.Tests.{lt-ltb, le-ltb}
+use Rattle.cases.specs.Block as block
+use borrow.Author.Needs.{needs}
+use Rattle.cases.proofs.check.block_check.Statement.{statement}
+use Rattle.cases.proofs.check.block_check.Tie as tie
+
+checksum-requires : tie.Need-checksum-requires
+checksum-requires c κs = search needs
+
+returns : tie.Need-returns
+unfolding block.checkOf
+returns c = rw (lt-ltb _ _ (c .if1 .taken))
+
+returns-2 : tie.Need-returns-2
+unfolding block.checkOf
+returns-2 c = rw (le-ltb _ _ (c .before .if1 .left)) (c .checksum .ensures)
+
+pub block-check-spec : {M : Type 1} → statement M
+block-check-spec = tie.close (tie.spec checksum-requires returns returns-2)

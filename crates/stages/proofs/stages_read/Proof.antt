@@ -1,0 +1,16 @@
+-- `stages_read` meets its contract.
+-- Assumes nothing.
+use mathlib.Core.Path.{ap}
+use Rattle.cases.specs.declared.Reading.{Reading}
+use borrow.Author.Needs.{needs}
+use Rattle.stages.proofs.stages_read.Statement.{statement}
+use Rattle.stages.proofs.stages_read.Tie as tie
+
+read-block-requires : tie.Need-read-block-requires
+read-block-requires c κs = search needs
+
+returns : tie.Need-returns
+returns c = ap (λ (r : Reading). r .case .number) (c .before .read-block .ensures .0)
+
+pub stages-read-spec : {M : Type 1} → statement M
+stages-read-spec = tie.close (tie.spec read-block-requires returns)

@@ -1,0 +1,20 @@
+-- `stages_value` meets its contract.
+-- Assumes nothing.
+use mathlib.Core.Path.{ap, _∙_}
+use Rattle.valuing.specs.Answer.{paid}
+use Rattle.valuing.specs.declared.Answer.{Answer}
+use borrow.Author.Needs.{needs}
+use Rattle.stages.proofs.stages_value.Statement.{statement}
+use Rattle.stages.proofs.stages_value.Tie as tie
+
+value-block-requires : tie.Need-value-block-requires
+value-block-requires c κs = search needs
+
+amount-requires : tie.Need-amount-requires
+amount-requires c κs = search needs
+
+returns : tie.Need-returns
+returns c = c .amount .ensures ∙ ap (λ (a : Answer). paid (a .outcome)) (c .before .value-block .ensures)
+
+pub stages-value-spec : {M : Type 1} → statement M
+stages-value-spec = tie.close (tie.spec value-block-requires amount-requires returns)

@@ -1,0 +1,47 @@
+// The stages of the way of a block, one function to a stage, for the benchmark to time: each does the work of those before it.
+ghost use mathlib.Core.Path.{_≡_};
+ghost use Rattle.cases.specs.Block.{checkOf};
+ghost use Rattle.cases.specs.Reading.{readingOf};
+ghost use Rattle.valuing.specs.Block.{blockAnswer};
+ghost use Rattle.valuing.specs.Answer.{paid};
+use cases::block_check;
+use cases::read_block;
+use valuing::Outcome;
+use valuing::value_block;
+
+// The check of a block.
+#[no_mangle]
+pub extern "C" fn stages_check(block: &[u8]) -> u32
+    ensures { λ r. ⌜ r ≡ checkOf (now (block .entry)) ⌝ }
+{
+    block_check(block)
+}
+
+// The case number of a block that is read, else 0.
+#[no_mangle]
+pub extern "C" fn stages_read(block: &[u8]) -> u32
+    ensures { λ r. ⌜ r ≡ readingOf (now (block .entry)) .case .number ⌝ }
+{
+    let reading = read_block(block);
+    let case = reading.case;
+    case.number
+}
+
+fn amount(outcome: Outcome) -> u64
+    ensures { λ r. ⌜ r ≡ paid outcome ⌝ }
+{
+    match outcome {
+        Outcome::Paid(items) => items.payment,
+        Outcome::Refused(_) => 0,
+    }
+}
+
+// What is paid on a block, else 0.
+#[no_mangle]
+pub extern "C" fn stages_value(block: &[u8]) -> u64
+    ensures { λ r. ⌜ r ≡ paid (blockAnswer (now (block .entry)) .outcome) ⌝ }
+{
+    let answer = value_block(block);
+    let outcome = answer.outcome;
+    amount(outcome)
+}
