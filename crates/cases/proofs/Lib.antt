@@ -1,4 +1,3 @@
 pub mod Places
 pub mod Order
-pub mod Weights
-pub mod Halves
+pub mod Columns

@@ -3,4 +3,4 @@ pub mod Block
 pub mod Refusals
 pub mod Form
 pub mod Reading
-pub mod Halves
+pub mod Columns

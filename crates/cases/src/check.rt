@@ -1,309 +1,113 @@
-// The check of a block, from the sums of its two halves of 254 bytes.
+// The check of a block. Its first 480 bytes are taken as 15 rows of 32, so that the sums of a column fit in 16 bits and many
+// columns are summed at a time; the other 28 are summed one by one.
 ghost use mathlib.Core.Path.{_≡_};
-ghost use Prim.Native.Nat.{ℕ, _+_, _<_, _≤_};
-ghost use lib.ListN.{length, getD};
+ghost use Prim.Native.Nat.{_+_, _*_, _<_, _≤_};
+ghost use lib.ListN.{length};
 ghost use Rattle.cases.specs.Block as block;
-ghost use Rattle.cases.specs.Halves.{SumsBelow};
+ghost use Rattle.cases.specs.Columns.{ColumnBelow, ColumnsBelow, columnsSum, restSum};
 
-// The weights of a half. A weight and a byte of eight bits each are multiplied many at a time, which weights that the loop
-// counts are not.
-const WEIGHTS: [u8; 254] = [
-    1,
-    2,
-    3,
-    4,
-    5,
-    6,
-    7,
-    8,
-    9,
-    10,
-    11,
-    12,
-    13,
-    14,
-    15,
-    16,
-    17,
-    18,
-    19,
-    20,
-    21,
-    22,
-    23,
-    24,
-    25,
-    26,
-    27,
-    28,
-    29,
-    30,
-    31,
-    32,
-    33,
-    34,
-    35,
-    36,
-    37,
-    38,
-    39,
-    40,
-    41,
-    42,
-    43,
-    44,
-    45,
-    46,
-    47,
-    48,
-    49,
-    50,
-    51,
-    52,
-    53,
-    54,
-    55,
-    56,
-    57,
-    58,
-    59,
-    60,
-    61,
-    62,
-    63,
-    64,
-    65,
-    66,
-    67,
-    68,
-    69,
-    70,
-    71,
-    72,
-    73,
-    74,
-    75,
-    76,
-    77,
-    78,
-    79,
-    80,
-    81,
-    82,
-    83,
-    84,
-    85,
-    86,
-    87,
-    88,
-    89,
-    90,
-    91,
-    92,
-    93,
-    94,
-    95,
-    96,
-    97,
-    98,
-    99,
-    100,
-    101,
-    102,
-    103,
-    104,
-    105,
-    106,
-    107,
-    108,
-    109,
-    110,
-    111,
-    112,
-    113,
-    114,
-    115,
-    116,
-    117,
-    118,
-    119,
-    120,
-    121,
-    122,
-    123,
-    124,
-    125,
-    126,
-    127,
-    128,
-    129,
-    130,
-    131,
-    132,
-    133,
-    134,
-    135,
-    136,
-    137,
-    138,
-    139,
-    140,
-    141,
-    142,
-    143,
-    144,
-    145,
-    146,
-    147,
-    148,
-    149,
-    150,
-    151,
-    152,
-    153,
-    154,
-    155,
-    156,
-    157,
-    158,
-    159,
-    160,
-    161,
-    162,
-    163,
-    164,
-    165,
-    166,
-    167,
-    168,
-    169,
-    170,
-    171,
-    172,
-    173,
-    174,
-    175,
-    176,
-    177,
-    178,
-    179,
-    180,
-    181,
-    182,
-    183,
-    184,
-    185,
-    186,
-    187,
-    188,
-    189,
-    190,
-    191,
-    192,
-    193,
-    194,
-    195,
-    196,
-    197,
-    198,
-    199,
-    200,
-    201,
-    202,
-    203,
-    204,
-    205,
-    206,
-    207,
-    208,
-    209,
-    210,
-    211,
-    212,
-    213,
-    214,
-    215,
-    216,
-    217,
-    218,
-    219,
-    220,
-    221,
-    222,
-    223,
-    224,
-    225,
-    226,
-    227,
-    228,
-    229,
-    230,
-    231,
-    232,
-    233,
-    234,
-    235,
-    236,
-    237,
-    238,
-    239,
-    240,
-    241,
-    242,
-    243,
-    244,
-    245,
-    246,
-    247,
-    248,
-    249,
-    250,
-    251,
-    252,
-    253,
-    254,
-];
-
-// The sum of some bytes, and the sum of (position + 1) times the byte.
-struct Sums {
-    pub plain: u32,
-    pub weighted: u32,
+// The sum of a column's bytes, and the sum of (row, from 0) times the byte.
+struct Column {
+    pub plain: u16,
+    pub weighted: u16,
 }
 
-fn widened(x: u8) -> u32
+// The same of each column.
+struct Columns {
+    pub plain: [u16; 32],
+    pub weighted: [u16; 32],
+}
+
+fn widened(x: u8) -> u16
     ensures { λ r. ⌜ (r ≡ x) × (r ≤ 255) ⌝ }
 {
-    x as u32
+    x as u16
 }
 
-// Those of the 254 bytes from an index on.
-fn half_sums(b: &[u8], at: usize, weights: &[u8; 254]) -> Sums
-    requires { ⌜ at + 254 ≤ length (now b) ⌝ }
-    requires { ⌜ ((k : ℕ) → k < 254 → getD (now weights) k 0 ≡ k + 1) ⌝ }
-    ensures { λ r. ⌜ SumsBelow (now (b .entry)) at 254 (r .plain) (r .weighted) ⌝ }
+fn sum_column(b: &[u8], j: usize) -> Column
+    requires { ⌜ (j < 32) × (480 ≤ length (now b)) ⌝ }
+    ensures { λ r. ⌜ ColumnBelow (now (b .entry)) j 15 (r .plain) (r .weighted) ⌝ }
 {
-    let mut plain: u32 = 0;
-    let mut weighted: u32 = 0;
-    let mut i: usize = 0;
-    while i < 254 {
-        let byte = widened(b[at + i]);
+    let mut plain: u16 = 0;
+    let mut weighted: u16 = 0;
+    let mut i: u16 = 0;
+    while i < 15 {
+        let byte = widened(b[32 * (i as usize) + j]);
         plain += byte;
-        weighted += widened(weights[i]) * byte;
+        weighted += i * byte;
         i += 1;
     }
-    Sums { plain, weighted }
+    Column { plain, weighted }
 }
 
-// The sum of (position + 1) times the byte over the first 508 bytes: the weights of the second half are 254 more than those of
-// the first.
+fn sum_columns(b: &[u8]) -> Columns
+    requires { ⌜ 480 ≤ length (now b) ⌝ }
+    ensures { λ r. ⌜ ColumnsBelow (now (b .entry)) 32 (r .plain) (r .weighted) ⌝ }
+{
+    let mut plain = [0u16; 32];
+    let mut weighted = [0u16; 32];
+    let mut j: usize = 0;
+    while j < 32 {
+        let c = sum_column(b, j);
+        plain[j] = c.plain;
+        weighted[j] = c.weighted;
+        j += 1;
+    }
+    Columns { plain, weighted }
+}
+
+// What column j adds to the check.
+fn column_term(j: u32, plain: u16, weighted: u16) -> u32
+    requires { ⌜ j < 32 ⌝ }
+    ensures { λ r. ⌜ (r ≡ 32 * weighted + (j + 1) * plain) × (r ≤ 4194304) ⌝ }
+{
+    32 * (weighted as u32) + (j + 1) * (plain as u32)
+}
+
+fn add_columns(plain: &[u16; 32], weighted: &[u16; 32]) -> u32
+    ensures { λ r. ⌜ (r ≡ columnsSum 32 (now (plain .entry)) (now (weighted .entry))) × (r ≤ 134217728) ⌝ }
+{
+    let mut sum: u32 = 0;
+    let mut j: u32 = 0;
+    while j < 32 {
+        let k = j as usize;
+        sum += column_term(j, plain[k], weighted[k]);
+        j += 1;
+    }
+    sum
+}
+
+// What the byte at a position of weight w adds to the check.
+fn byte_term(w: u32, x: u8) -> u32
+    requires { ⌜ w ≤ 508 ⌝ }
+    ensures { λ r. ⌜ (r ≡ w * x) × (r ≤ 129540) ⌝ }
+{
+    w * (widened(x) as u32)
+}
+
+// The sum of (position + 1) times the byte over the 28 bytes after the rows.
+fn sum_rest(b: &[u8]) -> u32
+    requires { ⌜ 508 ≤ length (now b) ⌝ }
+    ensures { λ r. ⌜ (r ≡ restSum 28 (now (b .entry))) × (r ≤ 3627120) ⌝ }
+{
+    let mut sum: u32 = 0;
+    let mut i: u32 = 0;
+    while i < 28 {
+        sum += byte_term(480 + i + 1, b[480 + i as usize]);
+        i += 1;
+    }
+    sum
+}
+
+// The sum of (position + 1) times the byte over the first 508 bytes.
 pub(crate) fn checksum(b: &[u8]) -> u32
     requires { ⌜ 508 ≤ length (now b) ⌝ }
     ensures { λ r. ⌜ r ≡ block.checksum (now (b .entry)) ⌝ }
 {
-    let weights = WEIGHTS;
-    let first = half_sums(b, 0, &weights);
-    let second = half_sums(b, 254, &weights);
-    first.weighted + second.weighted + 254 * second.plain
+    let all = sum_columns(b);
+    let plain = all.plain;
+    let weighted = all.weighted;
+    add_columns(&plain, &weighted) + sum_rest(b)
 }
 
 // The check that a block of these bytes must have; 0 where there are fewer than 508.

@@ -3,7 +3,7 @@
 use Prim.Native.Nat.{ℕ, zero, suc, _+_, _*_, _≤_, _<_}
 use mathlib.Core.Path.{_≡_, refl}
 use mathlib.Core.Bool.{Bool, false, _||_}
-use native.Mathlib.Nat.{add-zero, add-suc, mul-add}
+use native.Mathlib.Nat.{add-zero, add-suc, mul-add, zero-mul, suc-mul, mul-comm}
 use native.Mathlib.Numerals.{add-one}
 use native.Mathlib.Decide.{ℕ-discrete}
 use native.Mathlib.Omega.{arith}
@@ -78,3 +78,18 @@ pub sum-times : (n k : ℕ) (g : ℕ → ℕ) → sumBelow n (λ j. k * g j) ≡
 unfolding sumBelow
 sum-times zero k g = omega arith
 sum-times (suc n) k g = rw mul-add (omega (arith, sum-times n k g))
+
+-- a sum in m rows of n terms, taken by columns
+pub sum-zero : (n : ℕ) → sumBelow n (λ j. 0) ≡ 0
+unfolding sumBelow
+sum-zero zero = refl
+sum-zero (suc n) = omega (arith, sum-zero n)
+
+pub sum-columns : (m n : ℕ) (g : ℕ → ℕ) → sumBelow (m * n) g ≡ sumBelow n (λ j. sumBelow m (λ k. g (n * k + j)))
+unfolding sumBelow
+sum-columns zero n g = rw (zero-mul, sum-zero n)
+sum-columns (suc m) n g =
+    let split = sum-split (m * n) n g in
+    let parts = sum-plus n (λ j. sumBelow m (λ k. g (n * k + j))) (λ j. g (n * m + j)) in
+    let last : sumBelow n (λ j. g (m * n + j)) ≡ sumBelow n (λ j. g (n * m + j)) = rw (mul-comm m n) in
+    rw suc-mul (omega (arith, split, parts, last, sum-columns m n g))

@@ -38,10 +38,11 @@ fn pay(c: Case, gross: u64) -> u64
     requires { ⌜ (rangeFault c ≡ false) × (gross < 2 ^ 62) ⌝ }
     ensures { λ r. ⌜ r ≡ payment.payment c gross ⌝ }
 {
+    let avc = c.avc;
     if c.kind == 1 {
-        numbers::nearest(gross, 100) * 100 + c.avc
+        numbers::nearest(gross, 100) * 100 + avc
     } else {
-        larger(gross, underpin(c)) + c.avc
+        larger(gross, underpin(c)) + avc
     }
 }
 

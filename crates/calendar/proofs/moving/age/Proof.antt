@@ -1,6 +1,8 @@
 -- `age` meets its contract.
 -- Assumes nothing.
-use mathlib.Core.Bool.{and-eq-true-iff}
+use mathlib.Core.Bool.{true, false, _&&_, and-eq-true-iff}
+use mathlib.Core.Path.{_≡_}
+use lib.Dec.{ltb}
 use native.Mathlib.Omega.{arith}
 use borrow.Author.Tests.{ltb-true}
 use Rattle.calendar.proofs.Ages.{age-of}
@@ -23,12 +25,14 @@ sub-result c = omega (arith, ltb-true _ (c .before .before .before .years-betwee
 returns : tie.Need-returns
 returns c =
     let a = c .before .before .before .before .args in
-    rw (c .if1 .taken) at (age-of (a .birth) (a .on) (omega arith) (omega arith) (c .before .before .before .years-between .ensures) (c .before .before .in-year .ensures) (c .before .before2 .ensures))
+    let t : (ltb 0 (c .before .before .before .years-between .result) && c .before .before2 .result) ≡ true = c .if1 .taken in
+    rw t at (age-of (a .birth) (a .on) (omega arith) (omega arith) (c .before .before .before .years-between .ensures) (c .before .before .in-year .ensures) (c .before .before2 .ensures))
 
 returns-2 : tie.Need-returns-2
 returns-2 c =
     let a = c .before .before .before .before .args in
-    rw (c .if1 .left) at (age-of (a .birth) (a .on) (omega arith) (omega arith) (c .before .before .before .years-between .ensures) (c .before .before .in-year .ensures) (c .before .before2 .ensures))
+    let t : (ltb 0 (c .before .before .before .years-between .result) && c .before .before2 .result) ≡ false = c .if1 .left in
+    rw t at (age-of (a .birth) (a .on) (omega arith) (omega arith) (c .before .before .before .years-between .ensures) (c .before .before .in-year .ensures) (c .before .before2 .ensures))
 
 pub age-spec : {M : Type 1} → statement M
 age-spec =

@@ -1,5 +1,8 @@
 -- `years_ahead` meets its contract.
 -- Assumes nothing.
+use mathlib.Core.Bool.{true, false, _&&_}
+use mathlib.Core.Path.{_≡_}
+use lib.Dec.{leb}
 use native.Mathlib.Omega.{arith}
 use Rattle.calendar.proofs.YearsAhead.{ahead-of}
 use borrow.Author.Needs.{needs}
@@ -24,12 +27,14 @@ add-result c = search needs
 returns : tie.Need-returns
 returns c =
     let a = c .before .before .before .before .before .before .args in
-    rw (c .if1 .taken) at (ahead-of (a .from) (a .to) (omega arith) (omega arith) (c .before .before .before .before .before .years-between .ensures) (c .before .before .before .before .in-year .ensures) (c .before .before2 .ensures))
+    let t : (leb (a .from .year) (a .to .year) && c .before .before2 .result) ≡ true = c .if1 .taken in
+    rw t at (ahead-of (a .from) (a .to) (omega arith) (omega arith) (c .before .before .before .before .before .years-between .ensures) (c .before .before .before .before .in-year .ensures) (c .before .before2 .ensures))
 
 returns-2 : tie.Need-returns-2
 returns-2 c =
     let a = c .before .before .before .before .before .before .args in
-    rw (c .if1 .left) at (ahead-of (a .from) (a .to) (omega arith) (omega arith) (c .before .before .before .before .before .years-between .ensures) (c .before .before .before .before .in-year .ensures) (c .before .before2 .ensures))
+    let t : (leb (a .from .year) (a .to .year) && c .before .before2 .result) ≡ false = c .if1 .left in
+    rw t at (ahead-of (a .from) (a .to) (omega arith) (omega arith) (c .before .before .before .before .before .years-between .ensures) (c .before .before .before .before .in-year .ensures) (c .before .before2 .ensures))
 
 pub years-ahead-spec : {M : Type 1} → statement M
 years-ahead-spec =

@@ -1,5 +1,8 @@
 -- `block_check` meets its contract.
 -- Assumes nothing.
+use denote.Ref.{now}
+use native.Mathlib.Omega.{arith}
+use lib.ListN.{length}
 use borrow.Author.Tests.{lt-ltb, le-ltb}
 use Rattle.cases.specs.Block as block
 use borrow.Author.Needs.{needs}
@@ -11,11 +14,11 @@ checksum-requires c κs = search needs
 
 returns : tie.Need-returns
 unfolding block.checkOf
-returns c = rw (lt-ltb _ _ (c .if1 .taken))
+returns c = rw (lt-ltb (length (now (c .before .before .args .b))) 508 (omega arith))
 
 returns-2 : tie.Need-returns-2
 unfolding block.checkOf
-returns-2 c = rw (le-ltb _ _ (c .before .if1 .left)) (c .checksum .ensures)
+returns-2 c = rw (le-ltb (length (now (c .before .before .before .args .b))) 508 (omega arith)) (c .checksum .ensures)
 
 pub block-check-spec : {M : Type 1} → statement M
 block-check-spec = tie.close (tie.spec checksum-requires returns returns-2)

@@ -1,32 +1,28 @@
 -- `checksum` meets its contract.
 -- Assumes nothing.
-use native.Mathlib.Omega.{arith}
 use denote.Ref.{now}
-use Rattle.cases.proofs.Weights.{weight}
-use Rattle.cases.proofs.Halves.{in-halves}
+use Rattle.cases.proofs.Columns.{in-columns}
+use borrow.Author.Needs.{needs}
 use borrow.Author.Needs.{needs}
 use Rattle.cases.proofs.check.checksum.Statement.{statement}
 use Rattle.cases.proofs.check.checksum.Tie as tie
 
-half-sums-requires : tie.Need-half-sums-requires
-half-sums-requires c κs = (omega arith, weight)
+sum-columns-requires : tie.Need-sum-columns-requires
+sum-columns-requires c κs = search needs
 
-half-sums-requires-2 : tie.Need-half-sums-requires-2
-half-sums-requires-2 c κs = (omega arith, weight)
+add-columns-requires : tie.Need-add-columns-requires
+add-columns-requires c κs = search needs
+
+sum-rest-requires : tie.Need-sum-rest-requires
+sum-rest-requires c κs = search needs
 
 add-result : tie.Need-add-result
 add-result c = search needs
 
-mul-result : tie.Need-mul-result
-mul-result c = search needs
-
-add-result-2 : tie.Need-add-result-2
-add-result-2 c = search needs
-
 returns : tie.Need-returns
-returns c = in-halves (now (c .before .before .before .before .before .before .before .before .args .b)) (c .before .before .before .before .before .half-sums .result .plain) (c .before .before .before .before .before .half-sums .result .weighted) (c .before .before .before .half-sums2 .result .plain) (c .before .before .before .half-sums2 .result .weighted) (c .before .before .before .before .before .half-sums .ensures) (c .before .before .before .half-sums2 .ensures)
+returns c = rw (c .before .add-columns .ensures .0, c .sum-rest .ensures .0) (in-columns (now (c .before .before .before .before .before .before .before .before .args .b)) (c .before .before .before .before .before .before .sum-columns .result .plain) (c .before .before .before .before .before .before .sum-columns .result .weighted) (c .before .before .before .before .before .before .sum-columns .ensures))
 
 pub checksum-spec : {M : Type 1} → statement M
 checksum-spec =
     tie.close
-    (tie.spec half-sums-requires half-sums-requires-2 add-result mul-result add-result-2 returns)
+    (tie.spec sum-columns-requires add-columns-requires sum-rest-requires add-result returns)

@@ -63,17 +63,17 @@ unfolding factorFault excessDebit
 found c =
     rw (
       c .refuse-if8 .ensures,
-      c .before .dates-fault .ensures,
       c .before .before .refuse-if7 .ensures,
       c .before .before .before .before .refuse-if6 .ensures,
       c .before .before .before .before .before .before .refuse-if5 .ensures,
       c .before .before .before .before .before .before .before .before .refuse-if4 .ensures,
-      c .before .before .before .before .before .before .before .before .before .refer-fault .ensures,
       c .before .before .before .before .before .before .before .before .before .before .refuse-if3 .ensures,
-      c .before .before .before .before .before .before .before .before .before .before .before .age-fault .ensures,
       c .before .before .before .before .before .before .before .before .before .before .before .before .refuse-if2 .ensures,
-      c .before .before .before .before .before .before .before .before .before .before .before .before .before .before .case-totals .ensures .missing,
       c .before .before .before .before .before .before .before .before .before .before .before .before .before .refuse-if .ensures,
+      c .before .dates-fault .ensures,
+      c .before .before .before .before .before .before .before .before .before .refer-fault .ensures,
+      c .before .before .before .before .before .before .before .before .before .before .before .age-fault .ensures,
+      c .before .before .before .before .before .before .before .before .before .before .before .before .before .before .case-totals .ensures .missing,
       c .before .before .before .before .before .before .before .before .before .before .before .before .before .before .case-totals .ensures .excess,
     )
 
