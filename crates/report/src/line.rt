@@ -4,7 +4,7 @@ ghost use mathlib.Core.Path.{_≡_};
 ghost use Prim.Native.Nat.{_+_, _≤_};
 ghost use lib.ListN.{length};
 ghost use Rattle.buffers.specs.Text.{Written};
-ghost use Rattle.report.specs.Lines.{header, paidText, refusedText, lineOf, endLine};
+ghost use Rattle.report.specs.Lines.{header, benefitsText, paidText, refusedText, lineOf, endLine};
 ghost use Rattle.report.specs.Forming.{formedAs, formedNumbers, bufferWith};
 use crate::Formed;
 use crate::text::put_decimal;
@@ -20,18 +20,27 @@ use valuing::Outcome;
 // The fewest bytes in which a line is formed.
 const LEAST: usize = 256;
 
-fn put_items(out: &mut [u8], at: usize, i: Items) -> usize
-    requires { ⌜ at + 201 ≤ length (now out) ⌝ }
-    ensures { λ r. ⌜ Written (now (out .entry)) at (paidText i) (now (out .exit)) r ⌝ }
+// The payment and the benefits.
+fn put_benefits(out: &mut [u8], at: usize, i: Items) -> usize
+    requires { ⌜ at + 114 ≤ length (now out) ⌝ }
+    ensures { λ r. ⌜ Written (now (out .entry)) at (benefitsText i) (now (out .exit)) r ⌝ }
+    ensures { λ r. ⌜ r ≤ at + 114 ⌝ }
 {
     let a = put_item(out, at, b" pay ", i.payment / 100, i.payment, 2);
     let b = put_item(out, a, b" pension ", i.pension / 10000, i.pension, 4);
     let d = put_item(out, b, b" lump ", i.lump / 10000, i.lump, 4);
-    let e = put_item(out, d, b" survivor ", i.survivor / 10000, i.survivor, 4);
-    let f = put_item(out, e, b" deduct ", i.deduction / 10000, i.deduction, 4);
-    let g = put_item(out, f, b" underpin ", i.underpin / 100, i.underpin, 2);
-    let h = put_item(out, g, b" avc ", i.avc / 100, i.avc, 2);
-    put_text(out, h, b"\n")
+    put_item(out, d, b" survivor ", i.survivor / 10000, i.survivor, 4)
+}
+
+fn put_items(out: &mut [u8], at: usize, i: Items) -> usize
+    requires { ⌜ at + 201 ≤ length (now out) ⌝ }
+    ensures { λ r. ⌜ Written (now (out .entry)) at (paidText i) (now (out .exit)) r ⌝ }
+{
+    let a = put_benefits(out, at, i);
+    let b = put_item(out, a, b" deduct ", i.deduction / 10000, i.deduction, 4);
+    let d = put_item(out, b, b" underpin ", i.underpin / 100, i.underpin, 2);
+    let e = put_item(out, d, b" avc ", i.avc / 100, i.avc, 2);
+    put_text(out, e, b"\n")
 }
 
 fn put_refusal(out: &mut [u8], at: usize, r: Refusal) -> usize
