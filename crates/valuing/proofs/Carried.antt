@@ -1,30 +1,34 @@
 -- What the code carries from line to line, one line further; and the totals over all lines.
 -- Assumes nothing.
-use Prim.Native.Nat.{ℕ, _+_}
+use Prim.Native.Nat.{ℕ, _+_, _<_}
 use mathlib.Core.Bool.{Bool, true, false, cond}
 use mathlib.Core.Path.{_≡_, ap, _∙_}
 use native.Mathlib.Omega.{arith}
-use lib.Dec.{eqb, leb}
+use lib.Dec.{eqb}
+use borrow.Author.Tests.{lt-leb}
 use Rattle.numbers.proofs.Below.{sum-none, sum-more, any-none, any-more}
 use Rattle.cases.specs.Form.{line}
 use Rattle.cases.specs.declared.Case.{Case}
-use Rattle.factors.specs.Rows.{absent, found, noFactors, Small}
+use Rattle.factors.specs.Rows.{absent, found, Small}
 use Rattle.factors.specs.Tables.{byAge, byYears}
 use Rattle.factors.specs.declared.Factors.{Factors}
 use Rattle.factors.specs.declared.Row.{Row}
-use Rattle.factors.specs.declared.Row.the-variants.{Found}
 use Rattle.factors.proofs.Tables.{small-by-age, small-by-years}
-use Rattle.sums.specs.Rows.{rowOf, factorsOf}
+use Rattle.sums.specs.Rows.{ageOf, aheadOf, rowOf, factorsOf}
 use Rattle.valuing.specs.Totals.{rowFor, TotalsAt, TotalsBelow, plusTotals}
 use Rattle.valuing.specs.declared.sum.Totals.{Totals}
 
-pub small-row : (kind count i age ahead : ℕ) → Small (found (rowFor kind count i age ahead))
-small-row kind count i age ahead = go (leb count i) (eqb kind 1)
+pub small-row : (kind age ahead : ℕ) → Small (found (rowFor kind age ahead))
+small-row kind age ahead = go (eqb kind 1)
   where
-    go : (past first : Bool) → Small (found (cond past (Found noFactors) (cond first (byAge age) (byYears ahead))))
-    go true first = omega arith
-    go false true = small-by-age age
-    go false false = small-by-years ahead
+    go : (first : Bool) → Small (found (cond first (byAge age) (byYears ahead)))
+    go true = small-by-age age
+    go false = small-by-years ahead
+
+-- the row that the code looks up on a line within the count
+pub row-within : (c : Case) (i : ℕ) → i < c .count → rowFor (c .kind) (ageOf c) (aheadOf c i) ≡ rowOf c i
+unfolding rowOf
+row-within c i h = rw (lt-leb (c .count) i h)
 
 abbrev pub noTotals : Totals
 noTotals = record { pension = 0; lump = 0; survivor = 0; deduction = 0; absent = false; excess = false }

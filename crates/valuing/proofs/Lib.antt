@@ -3,6 +3,7 @@ pub mod Signed
 pub mod Carried
 pub mod Settled
 pub mod Stages
+pub mod Past
 pub mod Acceptance
 pub mod Comparison
 pub mod Figures

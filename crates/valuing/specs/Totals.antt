@@ -3,16 +3,15 @@
 use Prim.Native.Nat.{ℕ, _+_, _-_, _*_, _≤_}
 use mathlib.Core.Bool.{Bool, cond, _||_}
 use mathlib.Core.Path.{_≡_}
-use lib.Dec.{leb, ltb, eqb}
+use lib.Dec.{ltb, eqb}
 use Rattle.numbers.specs.Below.{sumBelow, anyBelow}
 use Rattle.cases.specs.Form.{line}
 use Rattle.cases.specs.declared.Line.{Line}
 use Rattle.cases.specs.declared.Case.{Case}
-use Rattle.factors.specs.Rows.{absent, noFactors}
+use Rattle.factors.specs.Rows.{absent}
 use Rattle.factors.specs.Tables.{byAge, byYears}
 use Rattle.factors.specs.declared.Factors.{Factors}
 use Rattle.factors.specs.declared.Row.{Row}
-use Rattle.factors.specs.declared.Row.the-variants.{Found}
 use Rattle.sums.specs.Rows.{rowOf, factorsOf}
 use Rattle.sums.specs.Sum.{memberPension, lumpSum, survivorPension, itemAt, deductionAt, excessAt}
 use Rattle.valuing.specs.declared.sum.Totals.{Totals}
@@ -37,9 +36,9 @@ pub record HeadInRange (c : Case) : Type 0 where
   pub transfer : c .transfer ≤ 1000000000
   pub contributions : c .contributions ≤ 1000000000
 
--- the row for line i, from the age and the years ahead
-abbrev pub rowFor : ℕ → ℕ → ℕ → ℕ → ℕ → Row
-rowFor kind count i age ahead = cond (leb count i) (Found noFactors) (cond (eqb kind 1) (byAge age) (byYears ahead))
+-- the row for a line within the count, from the age and the years ahead
+abbrev pub rowFor : ℕ → ℕ → ℕ → Row
+rowFor kind age ahead = cond (eqb kind 1) (byAge age) (byYears ahead)
 
 -- no amount of some totals is above n
 pub record Bounded (n : ℕ) (t : Totals) : Type 0 where

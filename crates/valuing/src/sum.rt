@@ -1,9 +1,9 @@
 // Steps 1 to 4 of the sum.
 ghost use mathlib.Core.Path.{_≡_};
-ghost use mathlib.Core.Bool.{false};
 ghost use Prim.Native.Nat.{_+_, _-_, _*_, _<_, _≤_, _^_};
 ghost use lib.Dec.{ltb};
-ghost use Rattle.cases.specs.Form.{rangeFault};
+ghost use Rattle.cases.specs.Form.{formVerdict};
+ghost use Rattle.cases.specs.declared.Verdict.the-variants.{Accepted};
 ghost use Rattle.factors.specs.Rows.{absent, found, Small};
 ghost use Rattle.sums.specs.Sum.{revalued};
 ghost use Rattle.valuing.specs.Totals.{LineInRange, rowFor, TotalsAt, TotalsBelow, Bounded, plusTotals, restOf};
@@ -35,18 +35,10 @@ struct Item {
     pub excess: bool,
 }
 
-// The row for line i of a case.
-fn row_for(kind: u16, count: u8, i: u8, age: u16, ahead: u32) -> Row
-    ensures { λ r. ⌜ r ≡ rowFor kind count i age ahead ⌝ }
+// The row for a line within the count.
+fn row_for(kind: u16, age: u16, ahead: u32) -> Row
+    ensures { λ r. ⌜ r ≡ rowFor kind age ahead ⌝ }
 {
-    if count <= i {
-        return Row::Found(Factors {
-            pension: 0,
-            lump: 0,
-            survivor: 0,
-            deduction: 0,
-        });
-    }
     if kind == 1 {
         factors::by_age(age)
     } else {
@@ -136,9 +128,9 @@ fn plus(a: Totals, b: Totals) -> Totals
     }
 }
 
-// The totals over all lines.
+// The totals over all lines; those past the count add nothing.
 pub(crate) fn case_totals(c: Case) -> Totals
-    requires { ⌜ rangeFault c ≡ false ⌝ }
+    requires { ⌜ formVerdict c ≡ Accepted ⌝ }
     ensures { λ r. ⌜ TotalsBelow c 4 r ⌝ }
 {
     let age = calendar::age(c.birth, c.guarantee);
@@ -151,11 +143,11 @@ pub(crate) fn case_totals(c: Case) -> Totals
         excess: false,
     };
     let mut i: u8 = 0;
-    while i < 4 {
+    while i < c.count {
         let k = i as usize;
         let l = c.lines[k];
         let ahead = calendar::years_ahead(c.guarantee, l.date);
-        let row = row_for(c.kind, c.count, i, age, ahead);
+        let row = row_for(c.kind, age, ahead);
         let line = line_totals(l, c.revaluation, found_or_zero(row), is_absent(row));
         sum = plus(sum, line);
         i += 1;

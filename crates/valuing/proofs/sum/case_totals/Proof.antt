@@ -3,26 +3,28 @@
 use mathlib.Core.Path.{_≡_}
 use Prim.Native.Nat.{_-_, _≤_}
 use native.Mathlib.Omega.{arith}
-use borrow.Author.Needs.{needs}
 use Rattle.cases.specs.Block.{lineBy}
 use Rattle.sums.specs.Rows.{rowOf}
 use Rattle.valuing.specs.Totals.{TotalsBelow}
 use Rattle.valuing.proofs.Ranges.{head-in-range, line-in-range}
-use Rattle.valuing.proofs.Carried.{small-row, totals-none, totals-more}
+use Rattle.valuing.proofs.Stages.{in-range}
+use Rattle.valuing.proofs.Past.{few-lines, totals-all}
+use Rattle.valuing.proofs.Carried.{small-row, row-within, totals-none, totals-more}
+use borrow.Author.Needs.{needs}
 use Rattle.valuing.proofs.sum.case_totals.Statement.{statement}
 use Rattle.valuing.proofs.sum.case_totals.Tie as tie
 
 abbrev Inv-loop : tie.InvT-loop
-Inv-loop c age sum₀ i₀ sum i = (i ≤ 4) × TotalsBelow c i sum
+Inv-loop c age sum₀ i₀ sum i = (i ≤ c .count) × (c .count ≤ 4) × TotalsBelow c i sum
 
 abbrev μ-loop : tie.MeasureT-loop
-μ-loop c age sum₀ i₀ sum i = 4 - i
+μ-loop c age sum₀ i₀ sum i = c .count - i
 
 age-requires : tie.Need-age-requires Inv-loop μ-loop
 age-requires c κs = search needs
 
 loop-holds : tie.Need-loop-holds Inv-loop μ-loop
-loop-holds c = (omega arith, totals-none (c .before .before .before .args .t1))
+loop-holds c = (omega arith, few-lines (c .before .before .before .args .t1) (c .before .before .before .pre), totals-none (c .before .before .before .args .t1))
 
 cast-k : tie.Need-cast-k Inv-loop μ-loop
 cast-k c = search needs
@@ -47,14 +49,10 @@ is-absent-requires c κs = search needs
 
 line-totals-requires : tie.Need-line-totals-requires Inv-loop μ-loop
 unfolding lineBy
-line-totals-requires c κs = (
-  line-in-range (c .before .before .before .before .before .before .before .before .before .before .before .args .t1) (c .before .before .before .before .before .before .before .before .before .before .before .pre) (c .before .before .before .before .before .before .before .loop .i) (omega arith),
-  head-in-range (c .before .before .before .before .before .before .before .before .before .before .before .args .t1) (c .before .before .before .before .before .before .before .before .before .before .before .pre) .revaluation,
-  rw (c .before .found-or-zero .ensures, c .before .before .row-for .ensures) (small-row (c .before .before .before .before .before .before .before .before .before .before .before .args .t1 .kind) (c .before .before .before .before .before .before .before .before .before .before .before .args .t1 .count) (c .before .before .before .before .before .before .before .loop .i) (c .before .before .before .before .before .before .before .before .age .result) (c .before .before .before .years-ahead .result)),
-)
+line-totals-requires c κs = (line-in-range (c .before .before .before .before .before .before .before .before .before .before .before .args .t1) (in-range (c .before .before .before .before .before .before .before .before .before .before .before .args .t1) (c .before .before .before .before .before .before .before .before .before .before .before .pre)) (c .before .before .before .before .before .before .before .loop .i) (omega arith), head-in-range (c .before .before .before .before .before .before .before .before .before .before .before .args .t1) (in-range (c .before .before .before .before .before .before .before .before .before .before .before .args .t1) (c .before .before .before .before .before .before .before .before .before .before .before .pre)) .revaluation, rw (c .before .found-or-zero .ensures, c .before .before .row-for .ensures) (small-row (c .before .before .before .before .before .before .before .before .before .before .before .args .t1 .kind) (c .before .before .before .before .before .before .before .before .age .result) (c .before .before .before .years-ahead .result)))
 
 plus-requires : tie.Need-plus-requires Inv-loop μ-loop
-plus-requires c κs = let b = c .before .before .before .before .before .before .before .before .loop .inv .1 .bounded in let a = c .line-totals .ensures .bounded in (omega arith, omega arith)
+plus-requires c κs = let b = c .before .before .before .before .before .before .before .before .loop .inv .2 .bounded in let a = c .line-totals .ensures .bounded in (omega arith, omega arith)
 
 add-i : tie.Need-add-i Inv-loop μ-loop
 add-i c = omega arith
@@ -63,16 +61,11 @@ loop-less : tie.Need-loop-less Inv-loop μ-loop
 loop-less c = omega arith
 
 loop-again : tie.Need-loop-again Inv-loop μ-loop
-unfolding lineBy rowOf
-loop-again c =
-    let e : c .before .before .before .before .row-for .result ≡ rowOf (c .before .before .before .before .before .before .before .before .before .before .before .before .before .args .t1) (c .before .before .before .before .before .before .before .before .before .loop .i) = rw (c .before .before .before .before .row-for .ensures, c .before .before .before .before .before .before .before .before .before .before .age .ensures, c .before .before .before .before .before .years-ahead .ensures) in (
-      omega arith,
-      rw (c .plus .ensures)
-          (totals-more (c .before .before .before .before .before .before .before .before .before .before .before .before .before .args .t1) (c .before .before .before .before .before .before .before .before .before .loop .i) (c .before .before .before .before .row-for .result) (c .before .before .before .found-or-zero .result) (c .before .before .is-absent .result) e (c .before .before .before .found-or-zero .ensures) (c .before .before .is-absent .ensures) (c .before .before .before .before .before .before .before .before .before .loop .sum) (c .before .line-totals .result) (c .before .before .before .before .before .before .before .before .before .loop .inv .1) (c .before .line-totals .ensures)),
-    )
+unfolding lineBy
+loop-again c = let e : c .before .before .before .before .row-for .result ≡ rowOf (c .before .before .before .before .before .before .before .before .before .before .before .before .before .args .t1) (c .before .before .before .before .before .before .before .before .before .loop .i) = rw (c .before .before .before .before .row-for .ensures, c .before .before .before .before .before .before .before .before .before .before .age .ensures, c .before .before .before .before .before .years-ahead .ensures) (row-within (c .before .before .before .before .before .before .before .before .before .before .before .before .before .args .t1) (c .before .before .before .before .before .before .before .before .before .loop .i) (omega arith)) in (omega arith, c .before .before .before .before .before .before .before .before .before .loop .inv .1, rw (c .plus .ensures) (totals-more (c .before .before .before .before .before .before .before .before .before .before .before .before .before .args .t1) (c .before .before .before .before .before .before .before .before .before .loop .i) (c .before .before .before .before .row-for .result) (c .before .before .before .found-or-zero .result) (c .before .before .is-absent .result) e (c .before .before .before .found-or-zero .ensures) (c .before .before .is-absent .ensures) (c .before .before .before .before .before .before .before .before .before .loop .sum) (c .before .line-totals .result) (c .before .before .before .before .before .before .before .before .before .loop .inv .2) (c .before .line-totals .ensures)))
 
 returns : tie.Need-returns Inv-loop μ-loop
-returns c = let e : c .before .loop .i ≡ 4 = omega arith in rw (← e) (c .before .loop .inv .1)
+returns c = totals-all (c .before .before .before .before .before .args .t1) (c .before .before .before .before .before .pre) (c .before .loop .i) (c .before .loop .sum) (omega arith) (omega arith) (c .before .loop .inv .2)
 
 pub case-totals-spec : {M : Type 1} → statement M
 case-totals-spec =

@@ -13,7 +13,7 @@ line-dates-requires : tie.Need-line-dates-requires
 line-dates-requires c κs = search needs
 
 case-totals-requires : tie.Need-case-totals-requires
-case-totals-requires c κs = in-range (c .before .args .c) (c .before .pre)
+case-totals-requires c κs = c .before .pre
 
 refuse-if-requires : tie.Need-refuse-if-requires
 refuse-if-requires c κs = search needs
