@@ -30,12 +30,12 @@ fn sum_column(b: &[u8], j: usize) -> Column
 {
     let mut plain: u16 = 0;
     let mut weighted: u16 = 0;
-    let mut i: u16 = 0;
-    while i < 15 {
-        let byte = widened(b[32 * (i as usize) + j]);
+    let mut row: u16 = 0;
+    while row < 15 {
+        let byte = widened(b[32 * (row as usize) + j]);
         plain += byte;
-        weighted += i * byte;
-        i += 1;
+        weighted += row * byte;
+        row += 1;
     }
     Column { plain, weighted }
 }

@@ -1,5 +1,8 @@
 -- `by_age` meets its contract: what an age finds in the code's table is what it finds in the definition's.
 -- Assumes nothing.
+use mathlib.Core.Bool.{true, false, _&&_}
+use mathlib.Core.Path.{_≡_}
+use lib.Dec.{leb, ltb}
 use borrow.Author.Needs.{needs}
 use native.Mathlib.Omega.{arith}
 use Rattle.factors.specs.Tables.{rowAt, byAge, section1995}
@@ -24,11 +27,15 @@ of-four-requires c κs = search needs
 
 returns : tie.Need-returns
 unfolding byAge rowAt section1995
-returns c = rw (c .before .before .if1 .taken, c .of-four .ensures)
+returns c =
+    let within : (leb 22 (c .before .before .before .args .age) && ltb (c .before .before .before .args .age) 60) ≡ true = c .before .before .if1 .taken in
+    rw (within, c .of-four .ensures)
 
 returns-2 : tie.Need-returns-2
 unfolding byAge rowAt section1995
-returns-2 c = rw (c .if1 .left)
+returns-2 c =
+    let outside : (leb 22 (c .before .args .age) && ltb (c .before .args .age) 60) ≡ false = c .if1 .left in
+    rw outside
 
 pub by-age-spec : {M : Type 1} → statement M
 by-age-spec =

@@ -1,5 +1,8 @@
 -- `by_years` meets its contract: what a number of years finds in the code's table is what it finds in the definition's.
 -- Assumes nothing.
+use mathlib.Core.Bool.{true, false, _&&_}
+use mathlib.Core.Path.{_≡_}
+use lib.Dec.{leb, ltb}
 use borrow.Author.Needs.{needs}
 use native.Mathlib.Omega.{arith}
 use Rattle.factors.specs.Tables.{rowAt, byYears, scheme2015}
@@ -24,11 +27,15 @@ of-two-requires c κs = search needs
 
 returns : tie.Need-returns
 unfolding byYears rowAt scheme2015
-returns c = rw (c .before .before .if1 .taken, c .of-two .ensures)
+returns c =
+    let within : (leb 1 (c .before .before .before .args .years) && ltb (c .before .before .before .args .years) 51) ≡ true = c .before .before .if1 .taken in
+    rw (within, c .of-two .ensures)
 
 returns-2 : tie.Need-returns-2
 unfolding byYears rowAt scheme2015
-returns-2 c = rw (c .if1 .left)
+returns-2 c =
+    let outside : (leb 1 (c .before .args .years) && ltb (c .before .args .years) 51) ≡ false = c .if1 .left in
+    rw outside
 
 pub by-years-spec : {M : Type 1} → statement M
 by-years-spec =

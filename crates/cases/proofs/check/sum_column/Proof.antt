@@ -11,10 +11,10 @@ use Rattle.cases.proofs.check.sum_column.Statement.{statement}
 use Rattle.cases.proofs.check.sum_column.Tie as tie
 
 abbrev Inv-loop : tie.InvT-loop
-Inv-loop b j plain₀ weighted₀ i₀ plain weighted i = (i ≤ 15) × ColumnBelow b j i plain weighted
+Inv-loop b j plain₀ weighted₀ row₀ plain weighted row = (row ≤ 15) × ColumnBelow b j row plain weighted
 
 abbrev μ-loop : tie.MeasureT-loop
-μ-loop b j plain₀ weighted₀ i₀ plain weighted i = 15 - i
+μ-loop b j plain₀ weighted₀ row₀ plain weighted row = 15 - row
 
 loop-holds : tie.Need-loop-holds Inv-loop μ-loop
 loop-holds c = (omega arith, column-none (now (c .before .args .b)) (c .before .args .j))
@@ -38,22 +38,22 @@ add-plain : tie.Need-add-plain Inv-loop μ-loop
 add-plain c = omega (arith, c .before .before .before .loop .inv .1 .small-plain)
 
 mul-weighted : tie.Need-mul-weighted Inv-loop μ-loop
-mul-weighted c = omega (arith, row-product {k = c .before .before .before .loop .i} {x = c .widened .result} (omega arith) (omega arith))
+mul-weighted c = omega (arith, row-product {k = c .before .before .before .loop .row} {x = c .widened .result} (omega arith) (omega arith))
 
 add-weighted : tie.Need-add-weighted Inv-loop μ-loop
-add-weighted c = omega (arith, c .before .before .before .loop .inv .1 .small-weighted, row-product {k = c .before .before .before .loop .i} {x = c .widened .result} (omega arith) (omega arith))
+add-weighted c = omega (arith, c .before .before .before .loop .inv .1 .small-weighted, row-product {k = c .before .before .before .loop .row} {x = c .widened .result} (omega arith) (omega arith))
 
-add-i : tie.Need-add-i Inv-loop μ-loop
-add-i c = search needs
+add-row : tie.Need-add-row Inv-loop μ-loop
+add-row c = search needs
 
 loop-less : tie.Need-loop-less Inv-loop μ-loop
 loop-less c = search needs
 
 loop-again : tie.Need-loop-again Inv-loop μ-loop
-loop-again c = (omega arith, column-more (now (c .before .before .before .before .before .args .b)) (c .before .before .before .before .before .args .j) (c .before .before .before .loop .i) (c .before .before .before .loop .plain) (c .before .before .before .loop .weighted) (c .widened .result) (c .before .before .before .loop .inv .1) (omega arith) (c .widened .ensures .0) (c .widened .ensures .1))
+loop-again c = (omega arith, column-more (now (c .before .before .before .before .before .args .b)) (c .before .before .before .before .before .args .j) (c .before .before .before .loop .row) (c .before .before .before .loop .plain) (c .before .before .before .loop .weighted) (c .widened .result) (c .before .before .before .loop .inv .1) (omega arith) (c .widened .ensures .0) (c .widened .ensures .1))
 
 returns : tie.Need-returns Inv-loop μ-loop
-returns c = let e : c .before .loop .i ≡ 15 = omega arith in rw (← e) (c .before .loop .inv .1)
+returns c = let e : c .before .loop .row ≡ 15 = omega arith in rw (← e) (c .before .loop .inv .1)
 
 pub sum-column-spec : {M : Type 1} → statement M
 sum-column-spec =
@@ -70,7 +70,7 @@ sum-column-spec =
     add-plain
     mul-weighted
     add-weighted
-    add-i
+    add-row
     loop-less
     loop-again
     returns)

@@ -14,13 +14,13 @@ cast-result : tie.Need-cast-result
 cast-result c = search needs
 
 returns : tie.Need-returns
-returns c = rw (le-leb _ _ (c .before .before .before .if1 .taken)) (refl, λ h. (omega arith, omega arith))
+returns c = rw (le-leb (c .before .before .before .before .before .args .counts .paid) (c .before .before .before .before .before .args .counts .blocks) (omega arith)) (refl, λ h. (omega arith, omega arith))
 
 returns-2 : tie.Need-returns-2
-returns-2 c = rw (le-leb _ _ (c .before .before .if1 .taken)) (omega arith, λ h. absurd (omega arith))
+returns-2 c = rw (le-leb (c .before .before .before .before .args .counts .paid) (c .before .before .before .before .args .counts .blocks) (omega arith)) (omega arith, λ h. absurd (omega arith))
 
 returns-3 : tie.Need-returns-3
-returns-3 c = rw (lt-leb _ _ (c .if1 .left)) (refl, λ h. absurd (omega arith))
+returns-3 c = rw (lt-leb (c .before .before .args .counts .paid) (c .before .before .args .counts .blocks) (omega arith)) (refl, λ h. absurd (omega arith))
 
 pub left-after-spec : {M : Type 1} → statement M
 left-after-spec = tie.close (tie.spec sub-result cast-result returns returns-2 returns-3)
