@@ -1,5 +1,6 @@
 /* Where the time goes: the stages of the way of a block, each timed with those
- * before it, on the blocks of a file that is held in memory. */
+ * before it, on the blocks of a file that is held in memory. The time is the
+ * processor's, the best of the rounds, in which the stages take turns. */
 #include <stdint.h>
 #include <stdio.h>
 #include <stdlib.h>
@@ -11,12 +12,14 @@ uint32_t stages_check(const uint8_t *block, size_t length);
 uint32_t stages_read(const uint8_t *block, size_t length);
 uint64_t stages_value(const uint8_t *block, size_t length);
 
+#define ROUNDS 15
+
 static uint64_t kept;
 
 static double now(void)
 {
     struct timespec t;
-    clock_gettime(CLOCK_MONOTONIC, &t);
+    clock_gettime(CLOCK_PROCESS_CPUTIME_ID, &t);
     return (double)t.tv_sec + (double)t.tv_nsec * 1e-9;
 }
 
@@ -42,18 +45,16 @@ int main(int argc, char **argv)
     if (!data || fread(data, 1, size, file) != size)
         return 1;
     static const char *const names[4] = {"check", "reading", "valuing", "forming"};
-    double before = 0;
-    for (int which = 0; which < 4; which++) {
-        double best = 1e9;
-        for (int round = 0; round < 7; round++) {
+    double best[4] = {1e9, 1e9, 1e9, 1e9};
+    for (int round = 0; round < ROUNDS; round++)
+        for (int which = 0; which < 4; which++) {
             double start = now();
             for (size_t i = 0; i < blocks; i++)
                 stage(which, data + 512 * i);
             double took = (now() - start) / (double)blocks * 1e9;
-            best = took < best ? took : best;
+            best[which] = took < best[which] ? took : best[which];
         }
-        printf("  %-8s %4.0f ns a block\n", names[which], best - before);
-        before = best;
-    }
+    for (int which = 0; which < 4; which++)
+        printf("  %-8s %4.0f ns a block\n", names[which], best[which] - (which ? best[which - 1] : 0));
     return kept == 0;
 }
