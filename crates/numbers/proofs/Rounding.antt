@@ -1,6 +1,6 @@
 -- The laws of rounding: it keeps the order, and what it gives is never further off than half a unit.
 -- Assumes nothing.
-use Prim.Native.Nat.{ℕ, _+_, _*_, _/_, _%_, _-_, _≤_, _<_}
+use Prim.Native.Nat.{ℕ, _+_, _*_, _/_, _%_, _≤_, _<_}
 use native.Mathlib.Nat.{div-zero, div-mul-le-self, lt-div-mul-add, le-div-iff-mul-le, le-trans, mul-assoc, add-mul, one-mul, div-add-mod', div-eq-of-lt-le, mul-le-mul-left}
 use native.Mathlib.Omega.{arith}
 use mathlib.Core.Path.{_≡_}

@@ -1,6 +1,6 @@
 -- What refusal 5 leaves: amounts, revaluation and so the items are in their ranges.
 -- Assumes nothing.
-use Prim.Native.Nat.{ℕ, _+_, _-_, _*_, _≤_, _<_}
+use Prim.Native.Nat.{ℕ, _+_, _*_, _≤_, _<_}
 use mathlib.Core.Bool.{Bool, true, false, cond, not, _&&_}
 use mathlib.Core.List.{[], _∷_}
 use mathlib.Core.Path.{_≡_}

@@ -8,7 +8,7 @@ use Rattle.sums.specs.Rows.{rowOf}
 use Rattle.valuing.specs.Totals.{TotalsBelow}
 use Rattle.valuing.proofs.Ranges.{head-in-range, line-in-range}
 use Rattle.valuing.proofs.Stages.{in-range}
-use Rattle.valuing.proofs.Past.{few-lines, totals-all}
+use Rattle.valuing.proofs.Past.{four-at-most, totals-all}
 use Rattle.valuing.proofs.Carried.{small-row, row-within, totals-none, totals-more}
 use borrow.Author.Needs.{needs}
 use Rattle.valuing.proofs.sum.case_totals.Statement.{statement}
@@ -24,7 +24,7 @@ age-requires : tie.Need-age-requires Inv-loop μ-loop
 age-requires c κs = search needs
 
 loop-holds : tie.Need-loop-holds Inv-loop μ-loop
-loop-holds c = (omega arith, few-lines (c .before .before .before .args .t1) (c .before .before .before .pre), totals-none (c .before .before .before .args .t1))
+loop-holds c = (omega arith, four-at-most (c .before .before .before .args .t1) (c .before .before .before .pre), totals-none (c .before .before .before .args .t1))
 
 cast-k : tie.Need-cast-k Inv-loop μ-loop
 cast-k c = search needs
