@@ -1,9 +1,9 @@
 -- What refusals 3 and 4 leave of the lines of a case: at most four, and those past the count are zero.
 -- Assumes nothing.
 use Prim.Native.Nat.{ℕ, _≤_, _<_}
-use mathlib.Core.Bool.{Bool, true, false, cond, not, _&&_, _||_, and-eq-true-iff, true≢false}
+use mathlib.Core.Bool.{Bool, true, false, cond, not, _&&_, _||_, Bool·not-not, and-eq-true-iff, true≢false}
 use mathlib.Core.List.{[], _∷_}
-use mathlib.Core.Path.{_≡_, refl, sym}
+use mathlib.Core.Path.{_≡_, sym, ap, _∙_}
 use native.Mathlib.Omega.{arith}
 use lib.Dec.{eqb, leb}
 use borrow.Author.Tests.{leb-true, le-leb, eqb-true}
@@ -16,8 +16,7 @@ use Rattle.cases.specs.declared.Case.{Case}
 
 -- a test whose opposite does not hold, one that is asked only where another holds, and the last two of several
 not-false : (t : Bool) → not t ≡ false → t ≡ true
-not-false true e = refl
-not-false false e = absurd (true≢false e)
+not-false t e = sym (Bool·not-not t) ∙ ap not e
 
 where-asked : (t u : Bool) → t ≡ true → (t && u) ≡ false → u ≡ false
 where-asked true u p e = e

@@ -95,3 +95,13 @@ from-first first key b h = leb→le first key (and-left (leb first key) b (subst
 
 pub to-last : (a : Bool) (key end : ℕ) → (a && ltb key end) ≡ true → key < end
 to-last a key end h = ltb→lt key end (and-right a (ltb key end) (subst T (sym h) tt))
+
+-- a key within the table finds its row, and one outside it none
+module _ (factors : List ℕ → Factors) (first : ℕ) (table : List (List ℕ)) (key : ℕ) where
+  pub row-within : (leb first key && ltb key (first + length table)) ≡ true → Found (factors (getD table (key - first) [])) ≡ rowAt factors first table key
+  unfolding rowAt
+  row-within e = rw e
+
+  pub row-outside : (leb first key && ltb key (first + length table)) ≡ false → Absent ≡ rowAt factors first table key
+  unfolding rowAt
+  row-outside e = rw e

@@ -15,22 +15,25 @@ use Rattle.report.specs.Decimal.{decimal, item}
 abbrev pub header : List ℕ
 header = ascii "transfer values\n"
 
--- a payment with its items: payment, underpin and AVC are pounds with two decimals, the other items pounds with four; first the
--- payment and the benefits, then all of it
+-- a payment with its items: payment, underpin and AVC are pounds with two decimals, the other items pounds with four
+unfoldable pub paidText : Items → List ℕ
+paidText i =
+    item (ascii " pay ") 2 (i .payment) ++
+    item (ascii " pension ") 4 (i .pension) ++
+    item (ascii " lump ") 4 (i .lump) ++
+    item (ascii " survivor ") 4 (i .survivor) ++
+    item (ascii " deduct ") 4 (i .deduction) ++
+    item (ascii " underpin ") 2 (i .underpin) ++
+    item (ascii " avc ") 2 (i .avc) ++
+    ascii "\n"
+
+-- its first part, the payment and the benefits, which the code writes by itself
 abbrev pub benefitsText : Items → List ℕ
 benefitsText i =
     item (ascii " pay ") 2 (i .payment) ++
     item (ascii " pension ") 4 (i .pension) ++
     item (ascii " lump ") 4 (i .lump) ++
     item (ascii " survivor ") 4 (i .survivor)
-
-unfoldable pub paidText : Items → List ℕ
-paidText i =
-    benefitsText i ++
-    item (ascii " deduct ") 4 (i .deduction) ++
-    item (ascii " underpin ") 2 (i .underpin) ++
-    item (ascii " avc ") 2 (i .avc) ++
-    ascii "\n"
 
 -- a refusal with its number and name
 unfoldable pub refusedText : Refusal → List ℕ

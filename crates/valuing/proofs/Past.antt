@@ -1,8 +1,8 @@
 -- The lines past the count, where refusals 3 and 4 do not apply, add nothing to the totals.
 -- Assumes nothing.
 use Prim.Native.Nat.{ℕ, zero, suc, _+_, _-_, _≤_, _<_}
-use mathlib.Core.Bool.{Bool, true, false, _||_}
-use mathlib.Core.Path.{_≡_, refl}
+use mathlib.Core.Bool.{false, or-false}
+use mathlib.Core.Path.{_≡_}
 use native.Mathlib.Nat.{mul-zero, add-zero}
 use native.Mathlib.Omega.{arith}
 use borrow.Author.Tests.{le-leb, le-ltb}
@@ -19,10 +19,6 @@ use Rattle.valuing.specs.Answer.{NoneOf}
 use Rattle.valuing.proofs.Acceptance.{none-applies}
 use Rattle.valuing.proofs.Stages.{first-none}
 use Rattle.valuing.specs.declared.sum.Totals.{Totals}
-
-or-none : (t : Bool) → (t || false) ≡ t
-or-none true = refl
-or-none false = refl
 
 module _ (c : Case) (sound : formVerdict c ≡ Sound) where
   none : NoneOf (formTests false c)
@@ -50,8 +46,8 @@ module _ (c : Case) (sound : formVerdict c ≡ Sound) where
         lump = rw (sum-more, b .lump, q, mul-zero, add-zero);
         survivor = rw (sum-more, b .survivor, q, mul-zero, add-zero);
         deduction = rw (sum-more, b .deduction, q, mul-zero, add-zero);
-        missing = rw (any-more, b .missing, q, or-none);
-        excess = rw (any-more, b .excess, no-excess i h p, or-none);
+        missing = rw (any-more, b .missing, q, or-false);
+        excess = rw (any-more, b .excess, no-excess i h p, or-false);
         bounded = omega (arith, b .bounded);
       }
 

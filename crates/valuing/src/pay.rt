@@ -1,7 +1,7 @@
 // Steps 5 and 6 of the sum, and the items.
 ghost use mathlib.Core.Path.{_≡_};
 ghost use mathlib.Core.Bool.{cond, false};
-ghost use Prim.Native.Nat.{_<_, _^_, max};
+ghost use Prim.Native.Nat.{_+_, _≤_, _<_, _^_, max};
 ghost use Rattle.cases.specs.Form.{rangeFault};
 ghost use Rattle.cases.specs.declared.Refusal.the-variants.{Negative};
 ghost use Rattle.sums.specs.Rows.{factorsOf};
@@ -34,13 +34,21 @@ fn larger(a: u64, b: u64) -> u64
     if a < b { b } else { a }
 }
 
+// Pence rounded to whole pounds, in pence.
+fn whole_pounds(gross: u64) -> u64
+    requires { ⌜ gross < 2 ^ 63 ⌝ }
+    ensures { λ r. ⌜ (r ≡ payment.wholePounds gross) × (r ≤ gross + 100) ⌝ }
+{
+    numbers::nearest(gross, 100) * 100
+}
+
 fn pay(c: Case, gross: u64) -> u64
     requires { ⌜ (rangeFault c ≡ false) × (gross < 2 ^ 62) ⌝ }
     ensures { λ r. ⌜ r ≡ payment.payment c gross ⌝ }
 {
     let avc = c.avc;
     if c.kind == 1 {
-        numbers::nearest(gross, 100) * 100 + avc
+        whole_pounds(gross) + avc
     } else {
         larger(gross, underpin(c)) + avc
     }

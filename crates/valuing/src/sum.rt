@@ -78,6 +78,14 @@ fn revalue(x: u64, v: u32) -> u64
     numbers::nearest(x * (v as u64), 10000)
 }
 
+// Pence times a factor in hundredths.
+fn times(reduced: u64, factor: u64) -> u64
+    requires { ⌜ (reduced ≤ 20000000000) × (factor ≤ 9999) ⌝ }
+    ensures { λ r. ⌜ (r ≡ reduced * factor) × (r ≤ 200000000000000) ⌝ }
+{
+    reduced * factor
+}
+
 fn item_of(entered: u64, debit: u64, v: u32, factor: u64) -> Item
     requires { ⌜ (entered ≤ 2000000000) × (v ≤ 100000) × (factor ≤ 9999) ⌝ }
     ensures { λ r. ⌜ (r .amount ≡ (revalued v entered - debit) * factor) × (r .excess ≡ ltb (revalued v entered) debit) × (r .amount ≤ 200000000000000) ⌝ }
@@ -90,7 +98,7 @@ fn item_of(entered: u64, debit: u64, v: u32, factor: u64) -> Item
         }
     } else {
         Item {
-            amount: (revalued - debit) * factor,
+            amount: times(revalued - debit, factor),
             excess: false,
         }
     }

@@ -1,12 +1,10 @@
 -- `by_age` meets its contract: what an age finds in the code's table is what it finds in the definition's.
 -- Assumes nothing.
-use mathlib.Core.Bool.{true, false, _&&_}
-use mathlib.Core.Path.{_≡_}
-use lib.Dec.{leb, ltb}
 use borrow.Author.Needs.{needs}
 use native.Mathlib.Omega.{arith}
-use Rattle.factors.specs.Tables.{rowAt, byAge, section1995}
-use Rattle.factors.proofs.Tables.{from-first, to-last}
+use Rattle.factors.specs.Rows.{ofFour}
+use Rattle.factors.specs.Tables.{byAge, section1995}
+use Rattle.factors.proofs.Tables.{from-first, to-last, row-within, row-outside}
 use Rattle.factors.proofs.by_age.Statement.{statement}
 use Rattle.factors.proofs.by_age.Tie as tie
 
@@ -26,16 +24,12 @@ of-four-requires : tie.Need-of-four-requires
 of-four-requires c κs = search needs
 
 returns : tie.Need-returns
-unfolding byAge rowAt section1995
-returns c =
-    let within : (leb 22 (c .before .before .before .args .age) && ltb (c .before .before .before .args .age) 60) ≡ true = c .before .before .if1 .taken in
-    rw (within, c .of-four .ensures)
+unfolding byAge section1995
+returns c = rw (c .of-four .ensures) (row-within ofFour 22 section1995 (c .before .before .before .args .age) (c .before .before .if1 .taken))
 
 returns-2 : tie.Need-returns-2
-unfolding byAge rowAt section1995
-returns-2 c =
-    let outside : (leb 22 (c .before .args .age) && ltb (c .before .args .age) 60) ≡ false = c .if1 .left in
-    rw outside
+unfolding byAge section1995
+returns-2 c = row-outside ofFour 22 section1995 (c .before .args .age) (c .if1 .left)
 
 pub by-age-spec : {M : Type 1} → statement M
 by-age-spec =

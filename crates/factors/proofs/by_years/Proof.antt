@@ -1,12 +1,10 @@
 -- `by_years` meets its contract: what a number of years finds in the code's table is what it finds in the definition's.
 -- Assumes nothing.
-use mathlib.Core.Bool.{true, false, _&&_}
-use mathlib.Core.Path.{_≡_}
-use lib.Dec.{leb, ltb}
 use borrow.Author.Needs.{needs}
 use native.Mathlib.Omega.{arith}
-use Rattle.factors.specs.Tables.{rowAt, byYears, scheme2015}
-use Rattle.factors.proofs.Tables.{from-first, to-last}
+use Rattle.factors.specs.Rows.{ofTwo}
+use Rattle.factors.specs.Tables.{byYears, scheme2015}
+use Rattle.factors.proofs.Tables.{from-first, to-last, row-within, row-outside}
 use Rattle.factors.proofs.by_years.Statement.{statement}
 use Rattle.factors.proofs.by_years.Tie as tie
 
@@ -26,16 +24,12 @@ of-two-requires : tie.Need-of-two-requires
 of-two-requires c κs = search needs
 
 returns : tie.Need-returns
-unfolding byYears rowAt scheme2015
-returns c =
-    let within : (leb 1 (c .before .before .before .args .years) && ltb (c .before .before .before .args .years) 51) ≡ true = c .before .before .if1 .taken in
-    rw (within, c .of-two .ensures)
+unfolding byYears scheme2015
+returns c = rw (c .of-two .ensures) (row-within ofTwo 1 scheme2015 (c .before .before .before .args .years) (c .before .before .if1 .taken))
 
 returns-2 : tie.Need-returns-2
-unfolding byYears rowAt scheme2015
-returns-2 c =
-    let outside : (leb 1 (c .before .args .years) && ltb (c .before .args .years) 51) ≡ false = c .if1 .left in
-    rw outside
+unfolding byYears scheme2015
+returns-2 c = row-outside ofTwo 1 scheme2015 (c .before .args .years) (c .if1 .left)
 
 pub by-years-spec : {M : Type 1} → statement M
 by-years-spec =

@@ -1,23 +1,19 @@
 -- `pay` meets its contract.
 -- Assumes nothing.
 use native.Mathlib.Omega.{arith}
-use lib.Dec.{lit<}
 use borrow.Author.Tests.{eq-eqb, ne-eqb}
-use Rattle.numbers.proofs.Rounding.{nearest-half}
 use Rattle.sums.specs.Payment as payment
 use Rattle.valuing.proofs.Ranges.{head-in-range, underpin-small}
+use borrow.Author.Needs.{needs}
 use borrow.Author.Needs.{needs}
 use Rattle.valuing.proofs.pay.pay.Statement.{statement}
 use Rattle.valuing.proofs.pay.pay.Tie as tie
 
-nearest-requires : tie.Need-nearest-requires
-nearest-requires c κs = search needs
-
-mul-result : tie.Need-mul-result
-mul-result c = omega (arith, c .nearest .ensures, nearest-half 100 (c .before .before .before .args .gross) (lit< tt))
+whole-pounds-requires : tie.Need-whole-pounds-requires
+whole-pounds-requires c κs = omega (arith, head-in-range (c .before .before .args .c) (c .before .before .pre .0))
 
 add-result : tie.Need-add-result
-add-result c = omega (arith, c .nearest .ensures, nearest-half 100 (c .before .before .before .args .gross) (lit< tt), head-in-range (c .before .before .before .args .c) (c .before .before .before .pre .0))
+add-result c = omega (arith, c .whole-pounds .ensures, head-in-range (c .before .before .before .args .c) (c .before .before .before .pre .0))
 
 underpin-requires : tie.Need-underpin-requires
 underpin-requires c κs = search needs
@@ -30,7 +26,7 @@ add-result-2 c = omega (arith, c .larger .ensures, c .before .underpin .ensures,
 
 returns : tie.Need-returns
 unfolding payment.payment
-returns c = rw (eq-eqb _ _ (c .before .if1 .taken), c .nearest .ensures)
+returns c = rw (eq-eqb _ _ (c .before .if1 .taken), c .whole-pounds .ensures .0)
 
 returns-2 : tie.Need-returns-2
 unfolding payment.payment
@@ -40,8 +36,7 @@ pub pay-spec : {M : Type 1} → statement M
 pay-spec =
     tie.close
     (tie.spec
-    nearest-requires
-    mul-result
+    whole-pounds-requires
     add-result
     underpin-requires
     larger-requires

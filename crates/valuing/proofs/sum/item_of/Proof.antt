@@ -2,9 +2,10 @@
 -- Assumes nothing.
 use Prim.Native.Nat.{_-_}
 use mathlib.Core.Path.{_≡_, refl}
-use native.Mathlib.Nat.{mul-le-mul, zero-mul}
+use native.Mathlib.Nat.{zero-mul}
 use borrow.Author.Tests.{lt-ltb, le-ltb}
 use native.Mathlib.Omega.{arith}
+use borrow.Author.Needs.{needs}
 use borrow.Author.Needs.{needs}
 use Rattle.valuing.proofs.sum.item_of.Statement.{statement}
 use Rattle.valuing.proofs.sum.item_of.Tie as tie
@@ -12,16 +13,15 @@ use Rattle.valuing.proofs.sum.item_of.Tie as tie
 revalue-requires : tie.Need-revalue-requires
 revalue-requires c κs = search needs
 
-mul-t9 : tie.Need-mul-t9
-mul-t9 c = omega (arith, mul-le-mul {n₁ = c .before .revalue .result - c .before .before .args .debit} {m₁ = c .before .before .args .factor} {n₂ = 20000000000} {m₂ = 9999} (omega arith) (omega arith))
+times-requires : tie.Need-times-requires
+times-requires c κs = search needs
 
 returns : tie.Need-returns
 returns c = let e : c .before .revalue .result - c .before .before .args .debit ≡ 0 = omega arith in
     rw (← c .before .revalue .ensures .0, lt-ltb _ _ (c .if1 .taken), e, zero-mul) (refl, refl, omega arith)
 
 returns-2 : tie.Need-returns-2
-returns-2 c = rw (← c .before .revalue .ensures .0, le-ltb _ _ (c .if1 .left))
-    (refl, refl, omega (arith, mul-le-mul {n₁ = c .before .revalue .result - c .before .before .args .debit} {m₁ = c .before .before .args .factor} {n₂ = 20000000000} {m₂ = 9999} (omega arith) (omega arith)))
+returns-2 c = rw (← c .before .before .revalue .ensures .0, le-ltb _ _ (c .before .if1 .left)) (c .times .ensures .0, refl, c .times .ensures .1)
 
 pub item-of-spec : {M : Type 1} → statement M
-item-of-spec = tie.close (tie.spec revalue-requires mul-t9 returns returns-2)
+item-of-spec = tie.close (tie.spec revalue-requires times-requires returns returns-2)
