@@ -35,7 +35,7 @@ def age(birth, on):
 
 
 def years_ahead(first, second):
-    """The fewest years by which the first must move on so as not to stand before the second."""
+    """The fewest years after which the first, moved on, no longer stands before the second."""
     return next(n for n in itertools.count() if not moved(first, n) < second)
 
 

@@ -1,24 +1,18 @@
 // Reads records from standard input, a 16-bit length, low byte first, and so many bytes each, and prints a line for each: its
 // number from 1, and the refusal or every field of the case in block order. The last line counts the refused readings
 // beside which a case stands that is not zero.
+use blocks::Reading;
 use calendar::Date;
 use cases::Case;
 use cases::Line;
-use cases::Reading;
-use cases::Refusal;
-use cases::Verdict;
 use libc::STDIN_FILENO;
 use libc::STDOUT_FILENO;
-
-fn put_number(out: &mut [u8], at: usize, n: u64) -> usize {
-    let mut text = [0u8; 20];
-    let k = io::decimal(n, &mut text);
-    buffers::put(out, at, &text[..k])
-}
+use refusals::Refusal;
+use refusals::Verdict;
 
 fn put_after(out: &mut [u8], at: usize, mark: &[u8], n: u64) -> usize {
     let start = buffers::put(out, at, mark);
-    put_number(out, start, n)
+    buffers::put_decimal(out, start, n)
 }
 
 fn put_field(out: &mut [u8], at: usize, n: u64) -> usize {
@@ -39,8 +33,8 @@ fn put_line(out: &mut [u8], at: usize, l: Line) -> usize {
     let dependant = put_field(out, survivor, l.dependant);
     let lump = put_field(out, dependant, l.lump);
     let modification = put_field(out, lump, l.modification);
-    let debit = put_field(out, modification, l.debit);
-    put_field(out, debit, l.lump_debit)
+    let scheme_pays = put_field(out, modification, l.scheme_pays);
+    put_field(out, scheme_pays, l.scheme_pays_lump)
 }
 
 fn put_lines(out: &mut [u8], at: usize, lines: [Line; 4]) -> usize {
@@ -87,27 +81,16 @@ fn put_case(out: &mut [u8], at: usize, c: Case) -> usize {
     put_lines(out, funds, lines)
 }
 
-// Writes the first n bytes of a text, where it has so many.
-fn put_start(out: &mut [u8], at: usize, text: &[u8], n: usize) -> usize {
-    if n <= text.len() {
-        buffers::put(out, at, &text[0..n])
-    } else {
-        at
-    }
-}
-
 fn put_refusal(out: &mut [u8], at: usize, why: Refusal) -> usize {
-    let number = put_after(out, at, b" refused ", cases::refusal_number(why) as u64);
+    let number = put_after(out, at, b" refused ", refusals::refusal_number(why) as u64);
     let start = buffers::put(out, number, b" ");
-    let name = cases::refusal_name(why);
-    let bytes = name.bytes;
-    put_start(out, start, &bytes, name.length)
+    refusals::put_name(out, start, why)
 }
 
 fn put_reading(out: &mut [u8], at: usize, r: Reading) -> usize {
     let v = r.verdict;
     match v {
-        Verdict::Accepted => put_case(out, at, r.case),
+        Verdict::Passed => put_case(out, at, r.case),
         Verdict::Refused(why) => put_refusal(out, at, why),
     }
 }
@@ -120,22 +103,35 @@ fn print_start(text: &[u8], n: usize) {
 
 fn print_reading(number: u64, r: Reading) {
     let mut out = [0u8; 1024];
-    let start = put_number(&mut out, 0, number);
+    let start = buffers::put_decimal(&mut out, 0, number);
     let fields = put_reading(&mut out, start, r);
     let end = buffers::put(&mut out, fields, b"\n");
     print_start(&out, end);
 }
 
+// Whether a digit of a text is not 0.
+fn has_digit(text: &[u8]) -> bool {
+    let mut found = false;
+    let mut i = 0;
+    while i < text.len() {
+        found = found | ((b'1' <= text[i]) & (text[i] <= b'9'));
+        i += 1;
+    }
+    found
+}
+
+// Whether any field of a case is not zero: its text has every one.
 fn has_field(c: Case) -> bool {
-    let l = c.lines[0];
-    (c.kind != 0) | (c.number != 0) | (l.pension != 0)
+    let mut text = [0u8; 1024];
+    put_case(&mut text, 0, c);
+    has_digit(&text)
 }
 
 // 1 for a refusal beside which a case stands that is not zero, else 0.
 fn fault(r: Reading) -> u64 {
     let v = r.verdict;
     match v {
-        Verdict::Accepted => 0,
+        Verdict::Passed => 0,
         Verdict::Refused(_) => has_field(r.case) as u64,
     }
 }
@@ -154,7 +150,7 @@ fn print_block(number: u64, faults: u64, block: &mut [u8], n: usize) -> Faults {
     if io::read_full(STDIN_FILENO, &mut block[0..n]) < n {
         return Faults::Ended;
     }
-    let r = cases::read_block(&block[0..n]);
+    let r = blocks::read_block(&block[0..n]);
     print_reading(number, r);
     Faults::Found(std::num::wrapping_add_u64(faults, fault(r)))
 }

@@ -8,7 +8,7 @@ use native.Mathlib.Omega.{arith}
 use lib.ListN.{length, take, drop, set, length-set, length-append, length-take, length-drop, take-append-drop}
 use lib.Seq.{paste, take-length, take-at, drop-at, drop-drop, drop-append-le, drop-append-add, take-set-le, set-split, length-take-le}
 use borrow.Author.Tests.{le-leb, lt-leb}
-use Rattle.buffers.specs.Text.{putAt, putEnd, Written}
+use Rattle.buffers.specs.Text.{putAt, putEnd, Written, WrittenIfRoom}
 
 module _ (buffer : List ℕ) (p : ℕ) (text : List ℕ) where
   -- where there is no room
@@ -27,10 +27,9 @@ module _ (buffer : List ℕ) (p : ℕ) (text : List ℕ) where
   pub length-put : p + length text ≤ length buffer → length (putAt buffer p text) ≡ length buffer
   length-put h = ap length (put-over h) ∙ simp (length-append, length-take, length-drop) (omega arith)
 
-  -- what the promise of writing gives where there is room
-  pub written : {after : List ℕ} {end : ℕ} → p + length text ≤ length buffer
-      → (after ≡ putAt buffer p text) × (end ≡ putEnd buffer p text) → Written buffer p text after end
-  written h w = let s = w .1 ∙ sym (put-some h .1) in record { bytes = w .0; stop = s; room = omega arith }
+-- what the promise of writing gives where there is room
+pub if-room : {b t a : List ℕ} {p e : ℕ} → (a ≡ putAt b p t) × (e ≡ putEnd b p t) → WrittenIfRoom b p t a e
+if-room {b} {t} {a} {p} {e} w h = let s = w .1 ∙ sym (put-some b p t h .1) in record { bytes = w .0; stop = s; room = omega arith }
 
 -- the byte after a text, stored before the text is written
 pub put-stored : (b : List ℕ) (p : ℕ) (t : List ℕ) (x : ℕ) → p + length t < length b → putAt (set b (p + length t) x) p t ≡ putAt b p (t ++ (x ∷ []))
@@ -76,6 +75,13 @@ then-written {b} {m} {a} {p} {e} {e′} {t} {u} v w =
       stop = omega (arith, length-append t u);
       room = omega arith;
     }
+
+infixl 4 _then_
+pub _then_ : {b m a : List ℕ} {p e e′ : ℕ} {t u : List ℕ} → WrittenIfRoom b p t m e → WrittenIfRoom m e u a e′ → WrittenIfRoom b p (t ++ u) a e′
+_then_ {t = t} {u = u} v w h =
+    let long = length-append t u in
+    let first = v (omega arith) in
+    then-written first (w (omega (arith, first .stop, written-length first)))
 
 -- what all writing from the start of a buffer leaves
 pub from-start : {b t a : List ℕ} {e : ℕ} → Written b 0 t a e → (e ≡ length t) × (a ≡ t ++ drop (length t) b)

@@ -28,3 +28,7 @@ pub record Written (before : List ℕ) (p : ℕ) (text after : List ℕ) (end : 
   pub bytes : after ≡ putAt before p text
   pub stop : end ≡ p + length text
   pub room : end ≤ length before
+
+-- a text was written so, if there was room for it
+abbrev pub WrittenIfRoom : List ℕ → ℕ → List ℕ → List ℕ → ℕ → Type 0
+WrittenIfRoom before p text after end = p + length text ≤ length before → Written before p text after end

@@ -1,7 +1,10 @@
-// Little-endian numbers in bytes, and writing a text into a lent buffer.
+// Little-endian numbers in bytes; writing a text or a number in decimal into a lent buffer.
+mod digits;
 mod number;
 mod text;
 
+pub use digits::put_decimal;
+pub use digits::put_digits;
 pub use number::u8_at;
 pub use number::u16_at;
 pub use number::u32_at;

@@ -1,4 +1,4 @@
--- The calendar's figures, by computing the definitions.
+-- Figures of leap days and of the calendar's edges, by computing the definitions.
 -- Assumes nothing.
 use Prim.Native.Nat.{ℕ}
 use mathlib.Core.Path.{_≡_, refl}
@@ -12,20 +12,17 @@ use Rattle.calendar.specs.Moving.{inYear, age, yearsAhead}
 abbrev date : ℕ → ℕ → ℕ → Date
 date d m y = record { year = y; month = m; day = d }
 
--- born 1 June; and born on 29 February, whose birthday is 1 March in a common year
-pub ages :
-    (age (date 1 6 1967) (date 31 5 2020) ≡ 52) × (age (date 1 6 1967) (date 1 6 2020) ≡ 53) ×
-    (age (date 29 2 1968) (date 28 2 2021) ≡ 52) × (age (date 29 2 1968) (date 1 3 2021) ≡ 53)
+-- born on 29 February, whose birthday is 1 March in a common year
+pub ages : (age (date 29 2 1968) (date 28 2 2021) ≡ 52) × (age (date 29 2 1968) (date 1 3 2021) ≡ 53)
 unfolding age howMany inYear
-ages = (refl, refl, refl, refl)
+ages = (refl, refl)
 
--- to the same day of the year and to the day after; from 29 February; to the first date itself and to an earlier one
+-- from 29 February to where it falls in a common year, and to the day after; to the first date itself and to an earlier one
 pub ahead :
-    (yearsAhead (date 3 7 2021) (date 3 7 2047) ≡ 26) × (yearsAhead (date 3 7 2021) (date 4 7 2047) ≡ 27) ×
-    (yearsAhead (date 29 2 2020) (date 1 3 2045) ≡ 25) ×
+    (yearsAhead (date 29 2 2020) (date 1 3 2045) ≡ 25) × (yearsAhead (date 29 2 2020) (date 2 3 2045) ≡ 26) ×
     (yearsAhead (date 3 7 2021) (date 3 7 2021) ≡ 0) × (yearsAhead (date 3 7 2021) (date 4 7 2020) ≡ 0)
 unfolding yearsAhead fewest inYear
-ahead = (refl, refl, refl, refl, refl)
+ahead = (refl, refl, refl, refl)
 
 -- leap days, and the first and the last day
 pub real :

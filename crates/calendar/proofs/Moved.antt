@@ -1,4 +1,5 @@
--- The laws of moving a date on. Two go by the definition: its year, and that month and day stay bytes. The others go by these two.
+-- The laws of moving a date on. Three go by the definition: its year, that month and day stay bytes, and how the code makes it.
+-- The others go by the first two.
 -- Assumes nothing.
 use Prim.Native.Nat.{ℕ, suc, _+_, _-_, _*_, _≤_, _<_}
 use mathlib.Core.Path.{_≡_, refl, sym}
@@ -7,7 +8,7 @@ use native.Mathlib.Decide.{decLe, decLt, ℕ-discrete}
 use native.Mathlib.Omega.{arith}
 use lib.Dec.{eqb, ltb}
 use borrow.Author.Tests.{ltb-true, ltb-false, lt-ltb, le-ltb, eq-eqb, ne-eqb}
-use Rattle.numbers.proofs.Turning.{Turns, turn-before}
+use Rattle.numbers.proofs.Threshold.{Threshold, rising-threshold}
 use Rattle.calendar.specs.declared.Date.{Date}
 use Rattle.calendar.specs.Dates.{isLeap, rank, before}
 use Rattle.calendar.specs.Moving.{leapDayIn, inYear, movedOn}
@@ -33,6 +34,11 @@ stays-bytes y d b = go (eqb (d .month) 2 && eqb (d .day) 29 && not (isLeap y))
     go true = omega arith
     go false = omega arith
 
+-- the date in a year as the code makes it, by its test
+pub in-year-of : (y : ℕ) (d : Date) {leap moves : Bool} → leap ≡ isLeap y → (eqb (d .month) 2 && eqb (d .day) 29 && not leap) ≡ moves → cond moves (leapDayIn y) (record { year = y; month = d .month; day = d .day }) ≡ inYear y d
+unfolding inYear
+in-year-of y d p e = rw (← e, p)
+
 -- a date in a year has one of that year's ranks
 pub within-year : (y : ℕ) (d : Date) → Bytes d → (y * 65536 ≤ rank (inYear y d)) × (rank (inYear y d) < y * 65536 + 65536)
 within-year y d b = omega (arith, year-is y d, stays-bytes y d b)
@@ -53,12 +59,12 @@ to-most d y g = go (ltb (rank (inYear y d)) g)
     go false = omega arith
 
 -- moved on by fewer it stands before g, by so many or more it does not
-pub moved-turns : (d : Date) → Bytes d → (y g : ℕ) → y * 65536 ≤ g → g ≤ y * 65536 + 65536 → Turns (λ n. ltb (rank (movedOn n d)) g) (yearsTo d y g)
+pub moved-threshold : (d : Date) → Bytes d → (y g : ℕ) → y * 65536 ≤ g → g ≤ y * 65536 + 65536 → Threshold (λ n. ltb (rank (movedOn n d)) g) (yearsTo d y g)
 unfolding yearsTo
-moved-turns d b y g l h = go (ltb (rank (inYear y d)) g) refl
+moved-threshold d b y g l h = go (ltb (rank (inYear y d)) g) refl
   where
-    turn : (m : ℕ) → ((k : ℕ) → suc k ≡ m → rank (movedOn k d) < g) → g ≤ rank (movedOn m d) → Turns (λ n. ltb (rank (movedOn n d)) g) m
-    turn = turn-before (λ n. rank (movedOn n d)) (moved-rises d b) g
+    threshold-at : (m : ℕ) → ((k : ℕ) → suc k ≡ m → rank (movedOn k d) < g) → g ≤ rank (movedOn m d) → Threshold (λ n. ltb (rank (movedOn n d)) g) m
+    threshold-at = rising-threshold (λ n. rank (movedOn n d)) (moved-rises d b) g
 
     in-y : (n : ℕ) → d .year + n ≡ y → rank (movedOn n d) ≡ rank (inYear y d)
     in-y n e = rw e
@@ -67,12 +73,12 @@ moved-turns d b y g l h = go (ltb (rank (inYear y d)) g) refl
     not-before e (yes o) = omega (arith, ltb-false (rank (inYear y d)) g e, in-y (y - d .year) (omega arith))
     not-before e (no o) = omega (arith, within-year (d .year + (y - d .year)) d b)
 
-    go : (s : Bool) → ltb (rank (inYear y d)) g ≡ s → Turns (λ n. ltb (rank (movedOn n d)) g) (cond s (suc y) y - d .year)
+    go : (s : Bool) → ltb (rank (inYear y d)) g ≡ s → Threshold (λ n. ltb (rank (movedOn n d)) g) (cond s (suc y) y - d .year)
     go true e =
-        turn (suc y - d .year)
+        threshold-at (suc y - d .year)
         (λ k q. omega (arith, ltb-true, in-y k (omega arith)))
         (omega (arith, within-year (d .year + (suc y - d .year)) d b))
-    go false e = turn (y - d .year) (λ k q. omega (arith, within-year (d .year + k) d b)) (not-before e (decLe (d .year) y))
+    go false e = threshold-at (y - d .year) (λ k q. omega (arith, within-year (d .year + k) d b)) (not-before e (decLe (d .year) y))
 
 -- a day stands before a date in the year y where its year is less, or is y and the day stands before the date in its own year
 pub before-in : (t d : Date) → Bytes t → Bytes d → (y : ℕ) → (ltb (t .year) y || (eqb (t .year) y && before t (inYear (t .year) d))) ≡ before t (inYear y d)

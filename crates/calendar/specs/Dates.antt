@@ -1,4 +1,4 @@
--- Real Gregorian days from 1 January 1900 to 31 December 2199, and the order of dates.
+-- Real days of the Gregorian calendar in the years 1900 to 2199, and the order of dates.
 -- Assumes nothing.
 use Prim.Native.Nat.{ℕ, _+_, _*_, _%_}
 use mathlib.Core.Bool.{Bool, cond, not, _&&_, _||_}
@@ -15,7 +15,7 @@ daysIn y m =
     (cond (eqb m 4 || eqb m 6 || eqb m 9 || eqb m 11) 30
     (cond (leb 1 m && leb m 12) 31 0))
 
--- a real day from 1 January 1900 to 31 December 2199
+-- a real day of the years 1900 to 2199
 unfoldable pub isReal : Date → Bool
 isReal d = leb 1900 (d .year) && leb (d .year) 2199 && leb 1 (d .day) && leb (d .day) (daysIn (d .year) (d .month))
 

@@ -21,11 +21,12 @@ inYear y d =
 abbrev pub movedOn : ℕ → Date → Date
 movedOn n d = inYear (d .year + n) d
 
--- age: the number of birthdays reached. The first is the birth moved on by one year; those after the years between are not
--- reached (the law age-turns)
+-- age: the number of birthdays reached. The first is the birth moved on by one year, and none past the years between is
+-- reached (the law age-threshold)
 unfoldable pub age : Date → Date → ℕ
 age birth on = howMany (on .year - birth .year) (λ n. not (before on (movedOn (suc n) birth)))
 
--- years ahead: the fewest years by which the first date must move on so as not to stand before the second (the law ahead-turns)
+-- years ahead: the fewest years after which the first date, moved on, no longer stands before the second; so it is after any
+-- more (the law ahead-threshold)
 unfoldable pub yearsAhead : Date → Date → ℕ
 yearsAhead from to = fewest (to .year - from .year + 1) (λ n. not (before (movedOn n from) to))

@@ -24,7 +24,7 @@ fn days_in(year: u16, month: u8) -> u8
     }
 }
 
-// Whether a date is a real day from 1 January 1900 to 31 December 2199.
+// Whether a date is a real day of the years 1900 to 2199.
 pub fn is_real(d: Date) -> bool
     ensures { λ r. ⌜ r ≡ dates.isReal d ⌝ }
 {

@@ -55,7 +55,7 @@ pub fn age(birth: Date, on: Date) -> u16
     }
 }
 
-// The fewest years by which one date must move on so as not to stand before another.
+// The fewest years after which one date, moved on, no longer stands before another.
 pub fn years_ahead(from: Date, to: Date) -> u32
     ensures { λ r. ⌜ r ≡ moving.yearsAhead from to ⌝ }
 {

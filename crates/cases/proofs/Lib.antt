@@ -1,4 +1,3 @@
-pub mod Places
-pub mod Order
-pub mod Columns
+pub mod Entries
+pub mod RowsOfKinds
 pub mod PastCount

@@ -5,15 +5,21 @@ use mathlib.Core.Bool.{Bool, _&&_}
 use mathlib.Core.List.{List, [], _∷_, _++_, map}
 use lib.Dec.{leb}
 
--- the amounts of a line, in block order
-pub data Amount : Type 0 where
-  pension additional survivor dependant lump modification debit lumpDebit : Amount
+-- the fields before the lines
+pub data Head : Type 0 where
+  kind number status receiver flags count service : Head
+  birth leaving guarantee statePension revaluation : Head
+  avc transfer contributions : Head
 
--- the entries of a case: the block's fields but the check, each line's fields counting apart. Lines count from 0
+-- the amounts of a line; those of Scheme Pays are debits
+pub data Amount : Type 0 where
+  pension additional survivor dependant lump modification schemePays schemePaysLump : Amount
+  deriving Discrete as amount-discrete
+
+-- the entries of a case (01's term): every field of its block but the check, the same field of two lines being two entries. Lines
+-- count from 0
 pub data Entry : Type 0 where
-  kind number status receiver flags count service : Entry
-  birth leaving guarantee statePension revaluation : Entry
-  avc transfer contributions : Entry
+  head : Head → Entry
   date : ℕ → Entry
   amount : ℕ → Amount → Entry
 
@@ -26,53 +32,59 @@ infix 5 _wide_
 abbrev pub _wide_ : ℕ → ℕ → Field
 _wide_ o w = record { offset = o; width = w }
 
--- where line i starts, and where its amounts stand from there
+abbrev pub headAt : Head → Field
+headAt kind = 0 wide 2
+headAt number = 4 wide 4
+headAt status = 8 wide 1
+headAt receiver = 9 wide 1
+headAt flags = 10 wide 1
+headAt count = 11 wide 1
+headAt service = 12 wide 2
+headAt birth = 16 wide 4
+headAt leaving = 20 wide 4
+headAt guarantee = 24 wide 4
+headAt statePension = 28 wide 4
+headAt revaluation = 32 wide 4
+headAt avc = 40 wide 8
+headAt transfer = 48 wide 8
+headAt contributions = 56 wide 8
+
+-- where line i starts, and where its amounts stand
 abbrev pub lineAt : ℕ → ℕ
 lineAt i = 64 + i * 72
 
-abbrev pub offsetInLine : Amount → ℕ
-offsetInLine pension = 8
-offsetInLine additional = 16
-offsetInLine survivor = 24
-offsetInLine dependant = 32
-offsetInLine lump = 40
-offsetInLine modification = 48
-offsetInLine debit = 56
-offsetInLine lumpDebit = 64
+abbrev pub amountAt : ℕ → Amount → ℕ
+amountAt i pension = lineAt i + 8
+amountAt i additional = lineAt i + 16
+amountAt i survivor = lineAt i + 24
+amountAt i dependant = lineAt i + 32
+amountAt i lump = lineAt i + 40
+amountAt i modification = lineAt i + 48
+amountAt i schemePays = lineAt i + 56
+amountAt i schemePaysLump = lineAt i + 64
 
 abbrev pub place : Entry → Field
-place kind = 0 wide 2
-place number = 4 wide 4
-place status = 8 wide 1
-place receiver = 9 wide 1
-place flags = 10 wide 1
-place count = 11 wide 1
-place service = 12 wide 2
-place birth = 16 wide 4
-place leaving = 20 wide 4
-place guarantee = 24 wide 4
-place statePension = 28 wide 4
-place revaluation = 32 wide 4
-place avc = 40 wide 8
-place transfer = 48 wide 8
-place contributions = 56 wide 8
+place (head h) = headAt h
 place (date i) = lineAt i wide 4
-place (amount i a) = (lineAt i + offsetInLine a) wide 8
+place (amount i a) = amountAt i a wide 8
 
 abbrev pub check : Field
 check = 508 wide 4
 
--- the entries in block order
+-- the same in block order
+abbrev pub heads : List Head
+heads =
+    kind ∷ number ∷ status ∷ receiver ∷ flags ∷ count ∷ service ∷
+    birth ∷ leaving ∷ guarantee ∷ statePension ∷ revaluation ∷ avc ∷ transfer ∷ contributions ∷ []
+
+abbrev pub amounts : List Amount
+amounts = pension ∷ additional ∷ survivor ∷ dependant ∷ lump ∷ modification ∷ schemePays ∷ schemePaysLump ∷ []
+
 abbrev pub entriesOfLine : ℕ → List Entry
-entriesOfLine i =
-    date i ∷ amount i pension ∷ amount i additional ∷ amount i survivor ∷ amount i dependant ∷ amount i lump ∷
-    amount i modification ∷ amount i debit ∷ amount i lumpDebit ∷ []
+entriesOfLine i = date i ∷ map (amount i) amounts
 
 abbrev pub entries : List Entry
-entries =
-    (kind ∷ number ∷ status ∷ receiver ∷ flags ∷ count ∷ service ∷
-    birth ∷ leaving ∷ guarantee ∷ statePension ∷ revaluation ∷ avc ∷ transfer ∷ contributions ∷ [])
-    ++ entriesOfLine 0 ++ entriesOfLine 1 ++ entriesOfLine 2 ++ entriesOfLine 3
+entries = map head heads ++ entriesOfLine 0 ++ entriesOfLine 1 ++ entriesOfLine 2 ++ entriesOfLine 3
 
 -- the fields of the block in their order
 abbrev pub layout : List Field

@@ -1,6 +1,5 @@
 pub mod Layout
-pub mod Block
-pub mod Refusals
+pub mod Entries
+pub mod Flags
+pub mod Kinds
 pub mod Form
-pub mod Reading
-pub mod Columns

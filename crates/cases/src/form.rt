@@ -1,29 +1,24 @@
 // Refusals 3, 4 and 5 of a case.
 ghost use mathlib.Core.Path.{_≡_};
+ghost use Rattle.refusals.specs.Tests.{first, verdictNumber};
 ghost use Rattle.cases.specs.Form as form;
-ghost use Rattle.cases.specs.Refusals.{verdictNumber};
 use crate::Case;
-use crate::Refusal;
-use crate::Verdict;
-use crate::lines::line_faults;
+use crate::flags::gmp_flag;
+use crate::flags::transfer_flag;
+use crate::flags::unused_flag;
+use crate::kinds::rules_of;
+use crate::lines::faults_of_lines;
 use crate::lines::too_large;
-use crate::refusals::refuse_if;
+use refusals::Refusal;
+use refusals::Verdict;
+use refusals::refuse_if;
 
-fn most_lines(kind: u16) -> u8
-    ensures { λ r. ⌜ r ≡ form.mostLines kind ⌝ }
-{
-    match kind {
-        1 => 1,
-        2 => 4,
-        _ => 0,
-    }
-}
-
-// Whether the kind is none, or the count of lines is one that its kind doesn't allow.
-pub(crate) fn kind_fault(kind: u16, count: u8) -> bool
+// Whether the kind is none, or does not allow the count of lines.
+fn kind_fault(kind: u16, count: u8) -> bool
     ensures { λ r. ⌜ r ≡ form.kindFault kind count ⌝ }
 {
-    !((1 <= count) & (count <= most_lines(kind)))
+    let rules = rules_of(kind);
+    !((1 <= count) & (count <= rules.lines))
 }
 
 fn status_listed(x: u8) -> bool
@@ -44,30 +39,19 @@ fn receiver_listed(x: u8) -> bool
     }
 }
 
-fn transfer_flag(flags: u8) -> bool
-    ensures { λ r. ⌜ r ≡ form.transferFlag flags ⌝ }
-{
-    flags % 2 == 1
-}
-
-fn gmp_flag(flags: u8) -> bool
-    ensures { λ r. ⌜ r ≡ form.gmpFlag flags ⌝ }
-{
-    flags / 2 % 2 == 1
-}
-
 // Whether a field before the lines that must be zero is not.
-fn head_reserved(c: Case) -> bool
-    ensures { λ r. ⌜ r ≡ form.headReserved c ⌝ }
+fn head_reserved_fault(c: Case) -> bool
+    ensures { λ r. ⌜ r ≡ form.headReservedFault c ⌝ }
 {
-    (c.flags / 4 != 0)
+    let rules = rules_of(c.kind);
+    unused_flag(c.flags)
         | (!gmp_flag(c.flags) & !calendar::is_zero(c.state_pension))
         | (!transfer_flag(c.flags) & (c.transfer != 0))
-        | ((c.kind == 1) & (transfer_flag(c.flags) | (c.contributions != 0)))
+        | (!rules.transfers & (transfer_flag(c.flags) | (c.contributions != 0)))
 }
 
-fn dates_range(c: Case) -> bool
-    ensures { λ r. ⌜ r ≡ form.datesRange c ⌝ }
+fn dates_range_fault(c: Case) -> bool
+    ensures { λ r. ⌜ r ≡ form.datesRangeFault c ⌝ }
 {
     !calendar::is_real(c.birth)
         | !calendar::is_real(c.leaving)
@@ -76,8 +60,8 @@ fn dates_range(c: Case) -> bool
 }
 
 // Whether a field before the lines is out of its range.
-fn head_range(c: Case) -> bool
-    ensures { λ r. ⌜ r ≡ form.headRange c ⌝ }
+fn head_range_fault(c: Case) -> bool
+    ensures { λ r. ⌜ r ≡ form.headRangeFault c ⌝ }
 {
     (c.number == 0)
         | !status_listed(c.status)
@@ -87,20 +71,25 @@ fn head_range(c: Case) -> bool
         | too_large(c.avc)
         | too_large(c.transfer)
         | too_large(c.contributions)
-        | dates_range(c)
+        | dates_range_fault(c)
 }
 
-// Refusals 3, 4 and 5 of a case, also one built by hand: the first that applies, or that none does.
-pub fn form_verdict(c: Case) -> Verdict
-    ensures verdict { λ r. ⌜ r ≡ form.formVerdict c ⌝ }
-    ensures number { λ r. ⌜ verdictNumber r ≡ verdictNumber (form.formVerdict c) ⌝ }
+// Refusals 3, 4 and 5 of a case, read or built by hand, beside which a byte of its block that no field names may be other than zero:
+// the first that applies, or that none does.
+pub fn form_verdict(c: Case, unnamed: bool) -> Verdict
+    ensures verdict { λ r. ⌜ r ≡ first (form.formTests unnamed c) ⌝ }
+    ensures number { λ r. ⌜ verdictNumber r ≡ verdictNumber (first (form.formTests unnamed c)) ⌝ }
 {
-    let lines = line_faults(c);
+    let lines = faults_of_lines(c);
     let range = refuse_if(
-        head_range(c) | lines.range,
+        head_range_fault(c) | lines.range,
         Refusal::Range,
-        Verdict::Accepted,
+        Verdict::Passed,
     );
-    let reserved = refuse_if(head_reserved(c) | lines.reserved, Refusal::Reserved, range);
+    let reserved = refuse_if(
+        unnamed | (head_reserved_fault(c) | lines.reserved),
+        Refusal::Reserved,
+        range,
+    );
     refuse_if(kind_fault(c.kind, c.count), Refusal::Kind, reserved)
 }

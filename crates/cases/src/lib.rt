@@ -1,19 +1,17 @@
-// The case of a member who leaves, the refusals, and reading a case from its block.
-mod block;
-mod check;
+// The case of a member who leaves: its entries, the rules of its kind, and refusals 3 to 5.
+mod flags;
 mod form;
+mod kinds;
 mod lines;
-mod refusals;
 
-pub use block::read_block;
 use calendar::Date;
-pub use check::block_check;
+pub use flags::gmp_flag;
+pub use flags::transfer_flag;
 pub use form::form_verdict;
-pub use refusals::refusal_name;
-pub use refusals::refusal_number;
-pub use refusals::refuse_if;
+pub use kinds::rules_of;
 
-// One line of benefits: its pension date and eight amounts in pence.
+// One line of benefits: its pension date and its amounts in pence. The two amounts of Scheme Pays are debits, on the pension and on
+// the lump sum.
 pub struct Line {
     pub date: Date,
     pub pension: u64,
@@ -22,8 +20,8 @@ pub struct Line {
     pub dependant: u64,
     pub lump: u64,
     pub modification: u64,
-    pub debit: u64,
-    pub lump_debit: u64,
+    pub scheme_pays: u64,
+    pub scheme_pays_lump: u64,
 }
 
 // The fields of a block but its check.
@@ -46,38 +44,27 @@ pub struct Case {
     pub lines: [Line; 4],
 }
 
-pub enum Refusal {
-    Length,
-    Check,
-    Kind,
-    Reserved,
-    Range,
-    Dates,
-    Status,
-    Receiver,
-    Service,
-    Refer,
-    Age,
-    Factor,
-    Debit,
-    Negative,
-    Buffer,
+// The notes' table that holds a kind's factors.
+pub enum Table {
+    Section1995,
+    Scheme2015,
+    NoTable,
 }
 
-// What tests in their order find: the first refusal that applies, or that none does.
-pub enum Verdict {
-    Accepted,
-    Refused(Refusal),
-}
-
-// What reading a block gives: the case where it is accepted, and beside a refusal a case of zeros.
-pub struct Reading {
-    pub verdict: Verdict,
-    pub case: Case,
-}
-
-// A refusal's name: its bytes, and zeros after them.
-pub struct Name {
-    pub bytes: [u8; 8],
-    pub length: usize,
+// What sets a kind of case apart.
+pub struct Rules {
+    // A case has one line to so many.
+    pub lines: u8,
+    // Whether each line is dated at its own pension age.
+    pub dated: bool,
+    // Whether there may be a transfer in, and own contributions.
+    pub transfers: bool,
+    // Whether there may be a lump sum, and Scheme Pays on it.
+    pub lump: bool,
+    pub modification: bool,
+    // The pension age where the lines are not dated.
+    pub pension_age: u16,
+    pub table: Table,
+    // What is paid of the gross value is a whole number of so many pence.
+    pub unit: u64,
 }

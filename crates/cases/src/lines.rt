@@ -1,8 +1,15 @@
 // What refusals 4 and 5 ask of the lines of a case.
+ghost use mathlib.Core.List.{map};
 ghost use mathlib.Core.Path.{_≡_};
-ghost use Rattle.cases.specs.Form.{lineIsZero, lineReserved, lineRange, tooLarge, anyLine};
+ghost use Rattle.numbers.specs.Lists.{any};
+ghost use Rattle.cases.specs.Layout.{amounts};
+ghost use Rattle.cases.specs.Entries.{amountIn, anyLine};
+ghost use Rattle.cases.specs.Kinds.{rulesOf};
+ghost use Rattle.cases.specs.Form.{filled, tooLarge, lineReservedFault, lineRangeFault};
 use crate::Case;
 use crate::Line;
+use crate::Rules;
+use crate::kinds::rules_of;
 
 // Whether a must-be-zero rule, and whether a range, is broken.
 pub(crate) struct Faults {
@@ -10,27 +17,26 @@ pub(crate) struct Faults {
     pub range: bool,
 }
 
-fn line_is_zero(l: Line) -> bool
-    ensures { λ r. ⌜ r ≡ lineIsZero l ⌝ }
-{
-    calendar::is_zero(l.date)
-        & (l.pension == 0)
-        & (l.additional == 0)
-        & (l.survivor == 0)
-        & (l.dependant == 0)
-        & (l.lump == 0)
-        & (l.modification == 0)
-        & (l.debit == 0)
-        & (l.lump_debit == 0)
+// Whether one of some amounts is not zero, and whether one is above the limit.
+struct AmountTests {
+    pub filled: bool,
+    pub too_large: bool,
 }
 
-fn line_reserved(kind: u16, count: u8, i: u8, l: Line) -> bool
-    ensures { λ r. ⌜ r ≡ lineReserved kind count i l ⌝ }
+// The amounts of a line, in block order.
+fn amounts_of(l: Line) -> [u64; 8]
+    ensures { λ r. ⌜ r ≡ map (λ a. amountIn a l) amounts ⌝ }
 {
-    ((count <= i) & !line_is_zero(l))
-        | ((kind == 1) & !calendar::is_zero(l.date))
-        | ((kind == 2) & ((l.lump != 0) | (l.modification != 0) | (l.lump_debit != 0)))
-        | ((1 <= i) & ((l.additional != 0) | (l.dependant != 0)))
+    [
+        l.pension,
+        l.additional,
+        l.survivor,
+        l.dependant,
+        l.lump,
+        l.modification,
+        l.scheme_pays,
+        l.scheme_pays_lump,
+    ]
 }
 
 pub(crate) fn too_large(x: u64) -> bool
@@ -39,31 +45,52 @@ pub(crate) fn too_large(x: u64) -> bool
     1000000000 < x
 }
 
-fn line_range(kind: u16, count: u8, i: u8, l: Line) -> bool
-    ensures { λ r. ⌜ r ≡ lineRange kind count i l ⌝ }
+fn test_amounts(n: &[u64]) -> AmountTests
+    ensures { λ r. ⌜ (r .filled ≡ any filled (now (n .entry))) × (r .«too_large» ≡ any tooLarge (now (n .entry))) ⌝ }
 {
-    too_large(l.pension)
-        | too_large(l.additional)
-        | too_large(l.survivor)
-        | too_large(l.dependant)
-        | too_large(l.lump)
-        | too_large(l.modification)
-        | too_large(l.debit)
-        | too_large(l.lump_debit)
-        | ((kind == 2) & (i < count) & !calendar::is_real(l.date))
+    let mut some_filled = false;
+    let mut some_too_large = false;
+    let mut i = n.len();
+    while 0 < i {
+        i -= 1;
+        some_filled = (n[i] != 0) | some_filled;
+        some_too_large = (1000000000 < n[i]) | some_too_large;
+    }
+    AmountTests {
+        filled: some_filled,
+        too_large: some_too_large,
+    }
 }
 
-pub(crate) fn line_faults(c: Case) -> Faults
-    ensures { λ r. ⌜ (r .reserved ≡ anyLine (lineReserved (c .kind) (c .count)) c) × (r .range ≡ anyLine (lineRange (c .kind) (c .count)) c) ⌝ }
+fn faults_of_line(rules: Rules, count: u8, i: u8, l: Line) -> Faults
+    ensures { λ r. ⌜ (r .reserved ≡ lineReservedFault rules count i l) × (r .range ≡ lineRangeFault rules count i l) ⌝ }
 {
+    let amounts = amounts_of(l);
+    let tests = test_amounts(&amounts);
+    let has_date = !calendar::is_zero(l.date);
+    Faults {
+        reserved: ((count <= i) & (has_date | tests.filled))
+            | (!rules.dated & has_date)
+            | (!rules.lump & ((l.lump != 0) | (l.scheme_pays_lump != 0)))
+            | (!rules.modification & (l.modification != 0))
+            | ((1 <= i) & ((l.additional != 0) | (l.dependant != 0))),
+        range: tests.too_large | (rules.dated & (i < count) & !calendar::is_real(l.date)),
+    }
+}
+
+pub(crate) fn faults_of_lines(c: Case) -> Faults
+    ensures { λ r. ⌜ (r .reserved ≡ anyLine (lineReservedFault (rulesOf (c .kind)) (c .count)) c) × (r .range ≡ anyLine (lineRangeFault (rulesOf (c .kind)) (c .count)) c) ⌝ }
+{
+    let rules = rules_of(c.kind);
     let mut reserved = false;
     let mut range = false;
     let mut i: u8 = 0;
     while i < 4 {
         let k = i as usize;
         let l = c.lines[k];
-        reserved = reserved | line_reserved(c.kind, c.count, i, l);
-        range = range | line_range(c.kind, c.count, i, l);
+        let faults = faults_of_line(rules, c.count, i, l);
+        reserved = reserved | faults.reserved;
+        range = range | faults.range;
         i += 1;
     }
     Faults { reserved, range }

@@ -1,29 +1,19 @@
 -- The tables' counts and ranges: one test that antt computes over a whole table, and what follows of every row found.
 -- Assumes nothing.
-use Prim.Native.Nat.{ℕ, zero, suc, _+_, _-_, _≤_, _<_}
+use Prim.Native.Nat.{ℕ, _+_, _-_, _≤_, _<_}
 use native.Mathlib.Omega.{arith}
-use mathlib.Core.Bool.{Bool, true, false, cond, _&&_}
-use mathlib.Core.List.{List, [], _∷_}
-use mathlib.Core.Path.{_≡_, subst, sym}
-use lib.Dec.{T, eqb, leb, ltb, leb→le, ltb→lt}
+use mathlib.Core.Bool.{Bool, true, false, cond, _&&_, and-eq-true-iff}
+use mathlib.Core.List.{List, []}
+use mathlib.Core.Path.{_≡_, refl}
+use lib.Dec.{eqb, leb, ltb}
 use lib.ListN.{length, getD}
+use borrow.Author.Tests.{leb-true, ltb-true}
+use Rattle.numbers.specs.Lists.{every}
+use Rattle.numbers.proofs.Lists.{every-at}
 use Rattle.factors.specs.declared.Factors.{Factors}
 use Rattle.factors.specs.declared.Row.the-variants.{Found, Absent}
-use Rattle.factors.specs.Rows.{ofFour, ofTwo, found, Small}
-use Rattle.factors.specs.Tables.{section1995, scheme2015, rowAt, byAge, byYears}
-
-and-left : (a b : Bool) → T (a && b) → T a
-and-left true b t = tt
-and-left false b t = t
-
-and-right : (a b : Bool) → T (a && b) → T b
-and-right true b t = t
-and-right false b t = absurd t
-
-module _ {A : Type 0} (test : A → Bool) where
-  abbrev pub every : List A → Bool
-  every [] = true
-  every (x ∷ xs) = test x && every xs
+use Rattle.factors.specs.Rows.{section1995Factors, scheme2015Factors, found, rowNumbers, Small}
+use Rattle.factors.specs.Tables.{section1995, scheme2015, rowAt, section1995Row, scheme2015Row}
 
 abbrev pub inRange : ℕ → Bool
 inRange n = leb 1 n && leb n 9999
@@ -36,72 +26,59 @@ rowFits width row = eqb (length row) width && every inRange row
 abbrev pub fits : ℕ → ℕ → List (List ℕ) → Bool
 fits rows width table = eqb (length table) rows && every (rowFits width) table
 
-pub section1995-fits : T (fits 38 4 section1995)
+pub section1995-fits : fits 38 4 section1995 ≡ true
 unfolding section1995
-section1995-fits = tt
+section1995-fits = refl
 
-pub scheme2015-fits : T (fits 50 2 scheme2015)
+pub scheme2015-fits : fits 50 2 scheme2015 ≡ true
 unfolding scheme2015
-scheme2015-fits = tt
-
-in-row : (row : List ℕ) → T (every inRange row) → (j : ℕ) → getD row j 0 ≤ 9999
-in-row [] t j = omega arith
-in-row (n ∷ ns) t zero = leb→le n 9999 (and-right (leb 1 n) (leb n 9999) (and-left (inRange n) (every inRange ns) t))
-in-row (n ∷ ns) t (suc j) = in-row ns (and-right (inRange n) (every inRange ns) t) j
-
-in-rows : (width : ℕ) (table : List (List ℕ)) → T (every (rowFits width) table) → (i j : ℕ) → getD (getD table i []) j 0 ≤ 9999
-in-rows width [] t i j = omega arith
-in-rows width (r ∷ rs) t zero j =
-    in-row r (and-right (eqb (length r) width) (every inRange r) (and-left (rowFits width r) (every (rowFits width) rs) t)) j
-in-rows width (r ∷ rs) t (suc i) j = in-rows width rs (and-right (rowFits width r) (every (rowFits width) rs) t) i j
+scheme2015-fits = refl
 
 -- a number of a table that fits, and 0 outside the table, is at most 9999
-pub in-table : (rows width : ℕ) (table : List (List ℕ)) → T (fits rows width table) →
-    (i j : ℕ) → getD (getD table i []) j 0 ≤ 9999
-in-table rows width table t = in-rows width table (and-right (eqb (length table) rows) (every (rowFits width) table) t)
+pub in-table : (rows width : ℕ) (table : List (List ℕ)) → fits rows width table ≡ true → (i j : ℕ) → getD (getD table i []) j 0 ≤ 9999
+in-table rows width table fit =
+    every-at (rowFits width) table [] in-row (λ j. omega arith) (and-eq-true-iff (eqb (length table) rows) (every (rowFits width) table) .0 fit .1)
+  where
+    at-most : (n : ℕ) → inRange n ≡ true → n ≤ 9999
+    at-most n h = leb-true n 9999 (and-eq-true-iff (leb 1 n) (leb n 9999) .0 h .1)
 
-small-or-none : (b : Bool) (f : Factors) → Small f → Small (found (cond b (Found f) Absent))
-small-or-none true f s = s
-small-or-none false f s = record { pension = omega arith; lump = omega arith; survivor = omega arith; deduction = omega arith }
+    in-row : (row : List ℕ) → rowFits width row ≡ true → (j : ℕ) → getD row j 0 ≤ 9999
+    in-row row h = every-at inRange row 0 at-most (omega arith) (and-eq-true-iff (eqb (length row) width) (every inRange row) .0 h .1)
 
--- what a table finds is small where each of its rows is
-pub small-row-at : (factors : List ℕ → Factors) (first : ℕ) (table : List (List ℕ)) →
-    ((i : ℕ) → Small (factors (getD table i []))) → (key : ℕ) → Small (found (rowAt factors first table key))
+-- what a table that fits finds is small, where a row's factors are numbers of the row or 0
+pub found-small :
+    (factors : List ℕ → Factors) (first rows width : ℕ) (table : List (List ℕ)) → fits rows width table ≡ true →
+    ((row : List ℕ) → ((j : ℕ) → getD row j 0 ≤ 9999) → Small (factors row)) →
+    (key : ℕ) → Small (found (rowAt factors first table key))
 unfolding rowAt
-small-row-at factors first table s key =
-    small-or-none (leb first key && ltb key (first + length table)) (factors (getD table (key - first) [])) (s (key - first))
-
-pub small-by-age : (age : ℕ) → Small (found (byAge age))
-unfolding byAge
-small-by-age =
-    small-row-at ofFour 22 section1995
-    (λ i. record { pension = at i 0; lump = at i 1; survivor = at i 2; deduction = at i 3 })
+found-small factors first rows width table fit small key =
+    go (leb first key && ltb key (first + length table)) (small (getD table (key - first) []) (in-table rows width table fit (key - first)))
   where
-    at : (i j : ℕ) → getD (getD section1995 i []) j 0 ≤ 9999
-    at = in-table 38 4 section1995 section1995-fits
+    go : (b : Bool) {f : Factors} → Small f → Small (found (cond b (Found f) Absent))
+    go true s = s
+    go false s = omega arith
 
-pub small-by-years : (years : ℕ) → Small (found (byYears years))
-unfolding byYears
-small-by-years =
-    small-row-at ofTwo 1 scheme2015
-    (λ i. record { pension = at i 0; lump = omega arith; survivor = at i 1; deduction = omega arith })
-  where
-    at : (i j : ℕ) → getD (getD scheme2015 i []) j 0 ≤ 9999
-    at = in-table 50 2 scheme2015 scheme2015-fits
+pub section1995-small : (age : ℕ) → Small (found (section1995Row age))
+unfolding section1995Row
+section1995-small = found-small section1995Factors 22 38 4 section1995 section1995-fits (λ row at. omega (arith, at 0, at 1, at 2, at 3))
+
+pub scheme2015-small : (years : ℕ) → Small (found (scheme2015Row years))
+unfolding scheme2015Row
+scheme2015-small = found-small scheme2015Factors 1 50 2 scheme2015 scheme2015-fits (λ row at. omega (arith, at 0, at 1))
 
 -- a key that has a row does not stand before the first, nor past the last
 pub from-first : (first key : ℕ) (b : Bool) → (leb first key && b) ≡ true → first ≤ key
-from-first first key b h = leb→le first key (and-left (leb first key) b (subst T (sym h) tt))
+from-first first key b h = leb-true first key (and-eq-true-iff (leb first key) b .0 h .0)
 
 pub to-last : (a : Bool) (key end : ℕ) → (a && ltb key end) ≡ true → key < end
-to-last a key end h = ltb→lt key end (and-right a (ltb key end) (subst T (sym h) tt))
+to-last a key end h = ltb-true key end (and-eq-true-iff a (ltb key end) .0 h .1)
 
--- a key within the table finds its row, and one outside it none
+-- a key within the table finds its row, and one outside it none, as a row and in numbers
 module _ (factors : List ℕ → Factors) (first : ℕ) (table : List (List ℕ)) (key : ℕ) where
-  pub row-within : (leb first key && ltb key (first + length table)) ≡ true → Found (factors (getD table (key - first) [])) ≡ rowAt factors first table key
+  pub row-within : {f : Factors} → (leb first key && ltb key (first + length table)) ≡ true → f ≡ factors (getD table (key - first) []) → (Found f ≡ rowAt factors first table key) × (rowNumbers (Found f) ≡ rowNumbers (rowAt factors first table key))
   unfolding rowAt
-  row-within e = rw e
+  row-within e p = rw (e, p) (refl, refl)
 
-  pub row-outside : (leb first key && ltb key (first + length table)) ≡ false → Absent ≡ rowAt factors first table key
+  pub row-outside : (leb first key && ltb key (first + length table)) ≡ false → (Absent ≡ rowAt factors first table key) × (rowNumbers Absent ≡ rowNumbers (rowAt factors first table key))
   unfolding rowAt
-  row-outside e = rw e
+  row-outside e = rw e (refl, refl)

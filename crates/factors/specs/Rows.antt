@@ -1,16 +1,16 @@
--- A row of factors: what a table's columns are, whether a row was found, and how large its factors may be.
+-- A row of factors: what a table's columns are, whether a row was found, its numbers, and how large its factors may be.
 -- Assumes nothing.
 use Prim.Native.Nat.{ℕ, _≤_}
 use mathlib.Core.Bool.{Bool, true, false}
-use mathlib.Core.List.{List}
+use mathlib.Core.List.{List, [], _∷_}
 use lib.ListN.{getD}
 use Rattle.factors.specs.declared.Factors.{Factors}
 use Rattle.factors.specs.declared.Row.{Row}
 use Rattle.factors.specs.declared.Row.the-variants.{Found, Absent}
 
 -- the factors of a row of 001: A pension, B lump sum, C survivor, E deduction
-abbrev pub ofFour : List ℕ → Factors
-ofFour row =
+abbrev pub section1995Factors : List ℕ → Factors
+section1995Factors row =
     record {
       pension = getD row 0 0;
       lump = getD row 1 0;
@@ -19,8 +19,8 @@ ofFour row =
     }
 
 -- the factors of a row of 003: A pension, B survivor
-abbrev pub ofTwo : List ℕ → Factors
-ofTwo row = record { pension = getD row 0 0; lump = 0; survivor = getD row 1 0; deduction = 0 }
+abbrev pub scheme2015Factors : List ℕ → Factors
+scheme2015Factors row = record { pension = getD row 0 0; lump = 0; survivor = getD row 1 0; deduction = 0 }
 
 abbrev pub noFactors : Factors
 noFactors = record { pension = 0; lump = 0; survivor = 0; deduction = 0 }
@@ -33,6 +33,11 @@ absent Absent = true
 abbrev pub found : Row → Factors
 found (Found f) = f
 found Absent = noFactors
+
+-- the row in numbers: 1 and the four factors where it is found, 0 where it is absent
+abbrev pub rowNumbers : Row → List ℕ
+rowNumbers (Found f) = 1 ∷ f .pension ∷ f .lump ∷ f .survivor ∷ f .deduction ∷ []
+rowNumbers Absent = 0 ∷ []
 
 -- no factor is above 99.99
 pub record Small (f : Factors) : Type 0 where

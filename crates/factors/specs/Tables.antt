@@ -8,11 +8,11 @@ use lib.ListN.{length, getD}
 use Rattle.factors.specs.declared.Factors.{Factors}
 use Rattle.factors.specs.declared.Row.{Row}
 use Rattle.factors.specs.declared.Row.the-variants.{Found, Absent}
-use Rattle.factors.specs.Rows.{ofFour, ofTwo}
+use Rattle.factors.specs.Rows.{section1995Factors, scheme2015Factors}
 
 -- Table TV1 of 001, by age from 22: A pension, B lump sum, C survivor, E deduction.
--- The text of 001 speaks of age 20; the table decides. TV2 has the same figures, the factors being unisex, and is
--- not a second table.
+-- 001's text names 20 as the first age, its table 22: the table decides. TV2 repeats these figures, as the factors are
+-- unisex, and is not a second table.
 unfoldable pub section1995 : List (List ℕ)
 section1995 =
     (893 ∷ 41 ∷ 84 ∷ 518 ∷ []) ∷
@@ -114,8 +114,8 @@ unfoldable pub rowAt : (List ℕ → Factors) → ℕ → List (List ℕ) → �
 rowAt factors first table key =
     cond (leb first key && ltb key (first + length table)) (Found (factors (getD table (key - first) []))) Absent
 
-unfoldable pub byAge : ℕ → Row
-byAge age = rowAt ofFour 22 section1995 age
+unfoldable pub section1995Row : ℕ → Row
+section1995Row age = rowAt section1995Factors 22 section1995 age
 
-unfoldable pub byYears : ℕ → Row
-byYears years = rowAt ofTwo 1 scheme2015 years
+unfoldable pub scheme2015Row : ℕ → Row
+scheme2015Row years = rowAt scheme2015Factors 1 scheme2015 years

@@ -1,7 +1,7 @@
 // The factor tables of the guidance notes, in hundredths, and looking up a row of them.
 ghost use mathlib.Core.Path.{_≡_};
-ghost use Rattle.factors.specs.Rows.{ofFour, ofTwo};
-ghost use Rattle.factors.specs.Tables.{byAge, byYears};
+ghost use Rattle.factors.specs.Rows.{section1995Factors, scheme2015Factors, rowNumbers};
+ghost use Rattle.factors.specs.Tables.{section1995Row, scheme2015Row};
 
 // The factors of a line, in hundredths; zero where a kind has none.
 pub struct Factors {
@@ -17,8 +17,8 @@ pub enum Row {
 }
 
 // Table TV1 of 001 by age, from 22: A pension, B lump sum, C survivor, E deduction.
-// The text of 001 speaks of age 20; the table decides. TV2 has the same figures, the factors being unisex, and is
-// not a second table.
+// 001's text names 20 as the first age, its table 22: the table decides. TV2 repeats these figures, as the factors are
+// unisex, and is not a second table.
 const SECTION_1995: [[u16; 4]; 38] = [
     [893, 41, 84, 518],
     [913, 42, 86, 532],
@@ -115,8 +115,8 @@ const SCHEME_2015: [[u16; 2]; 50] = [
 ];
 
 // The factors of a row of 001: A pension, B lump sum, C survivor, E deduction.
-fn of_four(row: [u16; 4]) -> Factors
-    ensures { λ r. ⌜ r ≡ ofFour row ⌝ }
+fn section_1995_factors(row: [u16; 4]) -> Factors
+    ensures { λ r. ⌜ r ≡ section1995Factors row ⌝ }
 {
     Factors {
         pension: row[0] as u64,
@@ -127,8 +127,8 @@ fn of_four(row: [u16; 4]) -> Factors
 }
 
 // The factors of a row of 003: A pension, B survivor.
-fn of_two(row: [u16; 2]) -> Factors
-    ensures { λ r. ⌜ r ≡ ofTwo row ⌝ }
+fn scheme_2015_factors(row: [u16; 2]) -> Factors
+    ensures { λ r. ⌜ r ≡ scheme2015Factors row ⌝ }
 {
     Factors {
         pension: row[0] as u64,
@@ -139,22 +139,24 @@ fn of_two(row: [u16; 2]) -> Factors
 }
 
 // The 1995 section's row for an age. Each use of the table's name copies the table, so there is one.
-pub fn by_age(age: u16) -> Row
-    ensures { λ r. ⌜ r ≡ byAge age ⌝ }
+pub fn section_1995_row(age: u16) -> Row
+    ensures row { λ r. ⌜ r ≡ section1995Row age ⌝ }
+    ensures numbers { λ r. ⌜ rowNumbers r ≡ rowNumbers (section1995Row age) ⌝ }
 {
     if (22 <= age) & (age < 60) {
-        Row::Found(of_four(SECTION_1995[(age - 22) as usize]))
+        Row::Found(section_1995_factors(SECTION_1995[(age - 22) as usize]))
     } else {
         Row::Absent
     }
 }
 
 // The 2015 scheme's row for a number of years ahead.
-pub fn by_years(years: u32) -> Row
-    ensures { λ r. ⌜ r ≡ byYears years ⌝ }
+pub fn scheme_2015_row(years: u32) -> Row
+    ensures row { λ r. ⌜ r ≡ scheme2015Row years ⌝ }
+    ensures numbers { λ r. ⌜ rowNumbers r ≡ rowNumbers (scheme2015Row years) ⌝ }
 {
     if (1 <= years) & (years < 51) {
-        Row::Found(of_two(SCHEME_2015[(years - 1) as usize]))
+        Row::Found(scheme_2015_factors(SCHEME_2015[(years - 1) as usize]))
     } else {
         Row::Absent
     }

@@ -67,12 +67,12 @@ fn figure(s: &[u8], at: usize) -> Number {
 fn look_up(table: u64, key: u64) -> Row {
     if table == 1995 {
         if key <= 65535 {
-            return factors::by_age(key as u16);
+            return factors::section_1995_row(key as u16);
         }
     }
     if table == 2015 {
         if key <= 4294967295 {
-            return factors::by_years(key as u32);
+            return factors::scheme_2015_row(key as u32);
         }
     }
     Row::Absent

@@ -1,4 +1,5 @@
 pub mod Rounding
 pub mod Below
-pub mod Turning
+pub mod Threshold
 pub mod Tests
+pub mod Lists

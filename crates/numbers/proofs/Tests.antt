@@ -1,9 +1,15 @@
--- Tests joined by `or`: where the whole does not hold, none of them does.
+-- What tests that are joined by `and` or `or` tell of each. The kit has more: mathlib.Core.Bool, borrow.Author.Tests.
 -- Assumes nothing.
-use mathlib.Core.Bool.{Bool, true, false, _||_, true≢false}
+use mathlib.Core.Bool.{Bool, true, false, _&&_, _||_, true≢false, false≢true}
 use mathlib.Core.List.{List, [], _∷_}
 use mathlib.Core.Path.{_≡_, refl}
 
+-- where the whole does not hold but the first test does, the second does not
+pub and-right-false : (s t : Bool) → s ≡ true → (s && t) ≡ false → t ≡ false
+and-right-false true t p e = e
+and-right-false false t p e = absurd (false≢true p)
+
+-- of tests joined by `or` none holds where the whole does not
 pub or-false : (s t : Bool) → (s || t) ≡ false → (s ≡ false) × (t ≡ false)
 or-false true t e = absurd (true≢false e)
 or-false false t e = (refl, e)

@@ -1,4 +1,4 @@
--- Sums, any, how many, the fewest and the largest, over the numbers below n.
+-- Sums, any, how many and the fewest, over the numbers below n.
 -- Assumes nothing.
 use Prim.Native.Nat.{ℕ, zero, suc, _+_}
 use mathlib.Core.Bool.{Bool, false, cond, _||_}
@@ -22,8 +22,3 @@ howMany (suc n) t = howMany n t + cond (t n) 1 0
 unfoldable pub fewest : ℕ → (ℕ → Bool) → ℕ
 fewest zero t = 0
 fewest (suc n) t = cond (t 0) 0 (suc (fewest n (λ k. t (suc k))))
-
--- the largest, of the numbers below n, at which t holds; 0 where it holds at none
-unfoldable pub largest : ℕ → (ℕ → Bool) → ℕ
-largest zero t = 0
-largest (suc n) t = cond (t n) n (largest n t)

@@ -1,2 +1,3 @@
 pub mod Rounding
 pub mod Below
+pub mod Lists

@@ -1,11 +1,11 @@
 -- The report of three blocks: a payment of kind 1, one of kind 2, and a block that is refused.
 -- Assumes nothing.
 use mathlib.Core.Path.{_≡_, refl}
+use Rattle.buffers.specs.Decimal.{lastDigits, digitsWithin, decimal}
 use Rattle.buffers.specs.Text.{ascii}
-use Rattle.cases.specs.declared.Refusal.the-variants.{Kind}
+use Rattle.refusals.specs.declared.Refusal.the-variants.{Kind}
 use Rattle.valuing.specs.declared.Answer.{Answer}
 use Rattle.valuing.specs.declared.Outcome.the-variants.{Paid, Refused}
-use Rattle.report.specs.Decimal.{lastDigits, digitsWithin, decimal}
 use Rattle.report.specs.Lines.{header, paidText, refusedText, lineOf, endLine}
 
 abbrev first : Answer

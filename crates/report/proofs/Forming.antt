@@ -10,8 +10,8 @@ use lib.ListN.{length, take, drop, length-append, length-take, length-drop}
 use borrow.Author.Tests.{lt-ltb, le-ltb}
 use Rattle.buffers.specs.Text.{Written}
 use Rattle.buffers.proofs.Writing.{from-start, in-part}
-use Rattle.cases.specs.declared.Refusal.{Refusal}
-use Rattle.cases.specs.declared.Refusal.the-variants.{Buffer}
+use Rattle.refusals.specs.declared.Refusal.{Refusal}
+use Rattle.refusals.specs.declared.Refusal.the-variants.{Buffer}
 use Rattle.report.specs.Forming.{formedAs, bufferWith, formedNumbers}
 use Rattle.report.specs.declared.Formed.{Formed}
 use Rattle.report.specs.declared.Formed.the-variants.{Line, Refused}

@@ -1,4 +1,3 @@
-pub mod Decimal
 pub mod Forming
 pub mod Lines
 pub mod Figures

@@ -1,41 +1,25 @@
 -- No line is longer than 256 bytes.
 -- Assumes nothing.
-use Prim.Native.Nat.{ℕ, _+_, _-_, _*_, _/_, _^_, _≤_, _<_}
-use mathlib.Core.List.{List}
+use Prim.Native.Nat.{ℕ, _+_, _*_, _/_, _^_, _≤_, _<_}
+use mathlib.Core.List.{List, _++_}
 use mathlib.Core.Path.{_≡_}
 use native.Mathlib.Nat.{div-lt-iff-lt-mul, one-le-pow}
 use native.Mathlib.Omega.{arith}
 use lib.Dec.{lit<, lit≤}
-use lib.ListN.{length, take, replicate, length-append}
-use lib.Seq.{take-append-seam}
-use Rattle.cases.specs.Refusals.{numberOf, nameOf, nameInEight}
-use Rattle.cases.specs.declared.Refusal.{Refusal}
-use Rattle.cases.specs.declared.Refusal.the-variants.{Length, Check, Kind, Reserved, Range, Dates, Status, Receiver, Service, Refer, Age, Factor, Debit, Negative, Buffer}
+use lib.ListN.{length, length-append}
+use Rattle.buffers.specs.Decimal.{decimal}
+use Rattle.buffers.specs.Text.{ascii, WrittenIfRoom}
+use Rattle.buffers.proofs.Decimal.{decimal-short, length-digits}
+use Rattle.refusals.proofs.Naming.{name-short, number-short}
+use Rattle.refusals.specs.Refusals.{numberOf}
+use Rattle.refusals.specs.declared.Refusal.{Refusal}
 use Rattle.valuing.specs.declared.Answer.{Answer}
 use Rattle.valuing.specs.declared.Items.{Items}
 use Rattle.valuing.specs.declared.Outcome.{Outcome}
 use Rattle.valuing.specs.declared.Outcome.the-variants.{Paid, Refused}
-use Rattle.report.specs.Decimal.{decimal}
+use Rattle.report.specs.declared.Formed.the-variants.{Line}
 use Rattle.report.specs.Lines.{paidText, refusedText, outcomeText, lineOf, endLine}
-use Rattle.report.proofs.Decimal.{decimal-short, length-digits}
-
--- a refusal's name has at most eight bytes, and its number at most two digits
-pub name-short : (r : Refusal) → (length (nameOf r) ≤ 8) × (numberOf r < 100)
-name-short Length = (lit≤ tt, lit< tt)
-name-short Check = (lit≤ tt, lit< tt)
-name-short Kind = (lit≤ tt, lit< tt)
-name-short Reserved = (lit≤ tt, lit< tt)
-name-short Range = (lit≤ tt, lit< tt)
-name-short Dates = (lit≤ tt, lit< tt)
-name-short Status = (lit≤ tt, lit< tt)
-name-short Receiver = (lit≤ tt, lit< tt)
-name-short Service = (lit≤ tt, lit< tt)
-name-short Refer = (lit≤ tt, lit< tt)
-name-short Age = (lit≤ tt, lit< tt)
-name-short Factor = (lit≤ tt, lit< tt)
-name-short Debit = (lit≤ tt, lit< tt)
-name-short Negative = (lit≤ tt, lit< tt)
-name-short Buffer = (lit≤ tt, lit< tt)
+use Rattle.report.proofs.Forming.{Promise, formed}
 
 -- items of 64 bits each
 pub record Sized (i : Items) : Type 0 where
@@ -55,13 +39,13 @@ SizedOutcome (Refused r) = Unit
 pounds-short : (m d n : ℕ) → 1 ≤ m → n < 10 ^ m * 10 ^ d → length (decimal (n / 10 ^ d)) ≤ m
 pounds-short m d n h l = decimal-short m (n / 10 ^ d) h ((div-lt-iff-lt-mul {k = 10 ^ d} {x = n} {y = 10 ^ m} (one-le-pow d 10 (lit< tt))) .1 l)
 
-pub two-decimals : (n : ℕ) → n < 2 ^ 64 → length (decimal (n / 100)) + 2 ≤ 20
+two-decimals : (n : ℕ) → n < 2 ^ 64 → length (decimal (n / 100)) + 2 ≤ 20
 two-decimals n h = omega (arith, pounds-short 18 2 n (lit≤ tt) (omega arith))
 
-pub four-decimals : (n : ℕ) → n < 2 ^ 64 → length (decimal (n / 10000)) + 4 ≤ 20
+four-decimals : (n : ℕ) → n < 2 ^ 64 → length (decimal (n / 10000)) + 4 ≤ 20
 four-decimals n h = omega (arith, pounds-short 16 4 n (lit≤ tt) (omega arith))
 
-pub paid-short : (i : Items) → Sized i → length (paidText i) ≤ 201
+paid-short : (i : Items) → Sized i → length (paidText i) ≤ 201
 unfolding paidText
 paid-short i s =
     simp (length-append, length-digits)
@@ -76,11 +60,9 @@ paid-short i s =
       two-decimals (i .avc) (s .avc),
     ))
 
-pub refused-short : (r : Refusal) → length (refusedText r) ≤ 21
+refused-short : (r : Refusal) → length (refusedText r) ≤ 29
 unfolding refusedText
-refused-short r =
-    let n = name-short r in
-    simp length-append (omega (arith, decimal-short 2 (numberOf r) (lit≤ tt) (n .1)))
+refused-short r = simp length-append (omega (arith, name-short r, decimal-short 2 (numberOf r) (lit≤ tt) (number-short r)))
 
 outcome-short : (o : Outcome) → SizedOutcome o → length (outcomeText o) ≤ 201
 outcome-short (Paid i) s = paid-short i s
@@ -93,19 +75,17 @@ line-short place a p n s =
     let o = outcome-short (a .outcome) s in
     simp length-append (omega (arith, decimal-short 10 place (lit≤ tt) (omega arith), decimal-short 10 (a .number) (lit≤ tt) (omega arith)))
 
+-- such a line, written with an outcome that is known, is formed
+pub line-formed : {b after : List ℕ} {e place : ℕ} {a : Answer} {o : Outcome} → 256 ≤ length b → place < 2 ^ 32 → a .number < 2 ^ 32
+    → a .outcome ≡ o → SizedOutcome o → WrittenIfRoom b 0 (decimal place ++ ascii " " ++ decimal (a .number) ++ outcomeText o) after e
+    → Promise b (lineOf place a) after (Line e)
+unfolding lineOf
+line-formed {place = place} {a = a} room p n known sized w =
+    let short = line-short place a p n (rw known sized) in
+    formed room ((rw (← known) at w) (omega arith))
+
 -- the end line of any counts of 32 bits
 pub end-short : (blocks paid : ℕ) → blocks < 2 ^ 32 → paid < 2 ^ 32 → length (endLine blocks paid) ≤ 38
 unfolding endLine
 end-short blocks paid b p =
     simp length-append (omega (arith, decimal-short 10 blocks (lit≤ tt) (omega arith), decimal-short 10 paid (lit≤ tt) (omega arith)))
-
--- a refusal's name among the eight bytes that hold it
-module _ (r : Refusal) {bytes : List ℕ} {n : ℕ} (name : (bytes ≡ nameInEight r) × (n ≡ length (nameOf r))) where
-  pub name-within : n ≤ length bytes
-  name-within = let e = name .1 in rw (name .0, length-append) (omega arith)
-
-  pub name-part : take (n - 0) bytes ≡ nameOf r
-  name-part =
-      let e = name .1 in
-      let z : n - 0 ≡ length (nameOf r) = omega arith in
-      rw (z, name .0) (take-append-seam (nameOf r) (replicate (8 - length (nameOf r)) 0))

@@ -5,8 +5,8 @@ use mathlib.Core.Bool.{cond}
 use mathlib.Core.List.{List, [], _∷_, _++_}
 use lib.Dec.{ltb}
 use lib.ListN.{length, drop}
-use Rattle.cases.specs.Refusals.{numberOf}
-use Rattle.cases.specs.declared.Refusal.the-variants.{Buffer}
+use Rattle.refusals.specs.Refusals.{numberOf}
+use Rattle.refusals.specs.declared.Refusal.the-variants.{Buffer}
 use Rattle.report.specs.declared.Formed.{Formed}
 use Rattle.report.specs.declared.Formed.the-variants.{Line, Refused}
 

@@ -1,19 +1,27 @@
 -- The lines of a report.
 -- Assumes nothing.
-use Prim.Native.Nat.{ℕ}
+use Prim.Native.Nat.{ℕ, _/_, _^_}
 use mathlib.Core.List.{List, _++_}
+use Rattle.buffers.specs.Decimal.{lastDigits, decimal}
 use Rattle.buffers.specs.Text.{ascii}
-use Rattle.cases.specs.Refusals.{numberOf, nameOf}
-use Rattle.cases.specs.declared.Refusal.{Refusal}
+use Rattle.refusals.specs.Refusals.{numberOf, nameOf}
+use Rattle.refusals.specs.declared.Refusal.{Refusal}
 use Rattle.valuing.specs.declared.Answer.{Answer}
 use Rattle.valuing.specs.declared.Items.{Items}
 use Rattle.valuing.specs.declared.Outcome.{Outcome}
 use Rattle.valuing.specs.declared.Outcome.the-variants.{Paid, Refused}
-use Rattle.report.specs.Decimal.{decimal, item}
 
 -- the first line
 abbrev pub header : List ℕ
 header = ascii "transfer values\n"
+
+-- a word, whole pounds, a point and the last d digits of n
+abbrev pub withPoint : List ℕ → ℕ → ℕ → ℕ → List ℕ
+withPoint word pounds d n = word ++ decimal pounds ++ ascii "." ++ lastDigits d n
+
+-- a word and an amount in units of which 10 ^ d make a pound, as pounds with d decimals
+abbrev pub item : List ℕ → ℕ → ℕ → List ℕ
+item word d n = withPoint word (n / 10 ^ d) d n
 
 -- a payment with its items: payment, underpin and AVC are pounds with two decimals, the other items pounds with four
 unfoldable pub paidText : Items → List ℕ
@@ -26,14 +34,6 @@ paidText i =
     item (ascii " underpin ") 2 (i .underpin) ++
     item (ascii " avc ") 2 (i .avc) ++
     ascii "\n"
-
--- its first part, the payment and the benefits, which the code writes by itself
-abbrev pub benefitsText : Items → List ℕ
-benefitsText i =
-    item (ascii " pay ") 2 (i .payment) ++
-    item (ascii " pension ") 4 (i .pension) ++
-    item (ascii " lump ") 4 (i .lump) ++
-    item (ascii " survivor ") 4 (i .survivor)
 
 -- a refusal with its number and name
 unfoldable pub refusedText : Refusal → List ℕ

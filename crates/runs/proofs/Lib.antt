@@ -1,3 +1,6 @@
-pub mod Blocks
-pub mod Chunks
+pub mod Lines
+pub mod Forming
 pub mod Turns
+pub mod Left
+pub mod Reports
+pub mod Steps

@@ -1,2 +1,2 @@
-pub mod Files
 pub mod Run
+pub mod Steps

@@ -1,52 +1,26 @@
 // A chunk of a case file: its blocks valued, their lines formed one after the other, and counted.
 ghost use mathlib.Core.Path.{_≡_};
-ghost use mathlib.Core.List.{_++_};
-ghost use Prim.Native.Nat.{_+_, _≤_, _<_, min};
-ghost use lib.ListN.{length, drop};
+ghost use Prim.Native.Nat.{_+_, _≤_, min};
+ghost use lib.ListN.{length};
 ghost use Rattle.buffers.specs.Text.{Written};
-ghost use Rattle.report.specs.Lines.{lineOf};
-ghost use Rattle.runs.specs.Files.{blockCount};
-ghost use Rattle.runs.specs.Run.{left, roomFor, counted, output, paidOne};
+ghost use Rattle.blocks.specs.Files.{allBlocks};
+ghost use Rattle.runs.specs.Run.{lines, paidOne, wantedAfter, counted};
 use crate::Counts;
-use crate::Run;
-use report::Formed;
-use report::form_line;
+use crate::line::put_line;
 use valuing::Answer;
 use valuing::Outcome;
 use valuing::value_block;
 
-fn least(a: usize, b: usize) -> usize
+// The counts after a chunk, and how many bytes its lines take.
+pub(crate) struct Lines {
+    pub(crate) counts: Counts,
+    pub(crate) length: usize,
+}
+
+pub(crate) fn least(a: usize, b: usize) -> usize
     ensures { λ r. ⌜ r ≡ min a b ⌝ }
 {
     if a < b { a } else { b }
-}
-
-fn left_after(counts: Counts) -> usize
-    ensures { λ r. ⌜ r ≡ left counts ⌝ }
-    ensures { λ r. ⌜ (0 < r → (counts .blocks + r ≤ 1000000) × (counts .paid ≤ counts .blocks)) ⌝ }
-{
-    if counts.paid <= counts.blocks {
-        if counts.blocks < 1000000 {
-            (1000000 - counts.blocks) as usize
-        } else {
-            0
-        }
-    } else {
-        0
-    }
-}
-
-// How many blocks may still be read after those counted: 1,000,000 in all.
-pub fn blocks_left(counts: Counts) -> usize
-    ensures { λ r. ⌜ r ≡ left counts ⌝ }
-{
-    left_after(counts)
-}
-
-fn count_blocks(n: usize) -> usize
-    ensures { λ r. ⌜ r ≡ blockCount n ⌝ }
-{
-    if n % 512 == 0 { n / 512 } else { n / 512 + 1 }
 }
 
 fn paid_one(a: Answer) -> u32
@@ -59,43 +33,27 @@ fn paid_one(a: Answer) -> u32
     }
 }
 
-// Forms a line at an index, and returns the index after it.
-fn put_line(out: &mut [u8], at: usize, place: u32, answer: Answer) -> usize
-    requires { ⌜ at + 256 ≤ length (now out) ⌝ }
-    ensures { λ r. ⌜ Written (now (out .entry)) at (lineOf place answer) (now (out .exit)) r ⌝ }
-    ensures { λ r. ⌜ r ≤ at + 256 ⌝ }
+// Values the blocks of a chunk, the last of them maybe shorter than 512 bytes, and forms their lines at the start of out.
+pub(crate) fn put_lines(input: &[u8], counts: Counts, out: &mut [u8]) -> Lines
+    requires { ⌜ length (now input) ≤ wantedAfter counts ⌝ }
+    requires { ⌜ 33024 ≤ length (now out) ⌝ }
+    ensures { λ r. ⌜ r .counts ≡ counted counts (allBlocks (now (input .entry))) ⌝ }
+    ensures { λ r. ⌜ Written (now (out .entry)) 0 (lines (counts .blocks + 1) (allBlocks (now (input .entry)))) (now (out .exit)) (r .length) ⌝ }
+    ensures { λ r. ⌜ r .length + 256 ≤ 33024 ⌝ }
 {
-    let formed = form_line(&mut out[at..at + 256], place, answer);
-    match formed {
-        Formed::Line(n) => at + n,
-        Formed::Refused(_) => at,
-    }
-}
-
-// Values the blocks of a chunk after those counted, the last of them maybe shorter than 512 bytes: so many as there is room
-// for, at 256 bytes a line, and as may still be read. Their lines stand at the start of out, whose later bytes keep their
-// contents.
-pub fn run_chunk(input: &[u8], counts: Counts, out: &mut [u8]) -> Run
-    ensures counts { λ r. ⌜ r .counts ≡ counted counts (roomFor (length (now (out .entry))) counts (now (input .entry))) ⌝ }
-    ensures length { λ r. ⌜ r .length ≡ length (output counts (roomFor (length (now (out .entry))) counts (now (input .entry)))) ⌝ }
-    ensures bytes { λ r. ⌜ now (out .exit) ≡ output counts (roomFor (length (now (out .entry))) counts (now (input .entry))) ++ drop (r .length) (now (out .entry)) ⌝ }
-{
-    let room = least(count_blocks(input.len()), out.len() / 256);
-    let mut todo = least(room, left_after(counts));
     let mut blocks = counts.blocks;
     let mut paid = counts.paid;
     let mut at: usize = 0;
     let mut used: usize = 0;
-    while 0 < todo {
+    while at < input.len() {
         let end = least(at + 512, input.len());
         let answer = value_block(&input[at..end]);
         blocks += 1;
         paid += paid_one(answer);
         used = put_line(out, used, blocks, answer);
         at = end;
-        todo -= 1;
     }
-    Run {
+    Lines {
         counts: Counts { blocks, paid },
         length: used,
     }

@@ -1,8 +1,10 @@
-// The run over a case file, a chunk at a time.
+// The run over a case file: what is read, chunk after chunk, and what is written of it.
 mod chunk;
+mod line;
+mod run;
 
-pub use chunk::blocks_left;
-pub use chunk::run_chunk;
+pub use run::start;
+pub use run::step;
 
 // How many blocks were read, and how many of them were paid.
 pub struct Counts {
@@ -10,8 +12,10 @@ pub struct Counts {
     pub paid: u32,
 }
 
-// The counts after a chunk, and how many bytes its lines take.
-pub struct Run {
+// How far a run has come: the counts; how many bytes of the file to read next, 0 where the run is over; and how many bytes at
+// the start of the buffer to write before that.
+pub struct Progress {
     pub counts: Counts,
+    pub wanted: usize,
     pub length: usize,
 }

@@ -1,4 +1,4 @@
--- What is known where refusals 13 and 14 do not apply: each debit is covered, and the total is not below zero.
+-- What is known where refusals 13 and 14 do not apply: Scheme Pays is covered, and the total is not below zero.
 -- Assumes nothing.
 use Prim.Native.Nat.{ℕ, _≤_, _<_}
 use mathlib.Core.Bool.{false}
@@ -7,17 +7,17 @@ use native.Mathlib.Omega.{arith}
 use borrow.Author.Tests.{ltb-false}
 use Rattle.numbers.proofs.Below.{any-false}
 use Rattle.numbers.proofs.Tests.{or-false}
-use Rattle.cases.specs.Form.{line}
+use Rattle.cases.specs.Entries.{line}
 use Rattle.cases.specs.declared.Line.{Line}
 use Rattle.cases.specs.declared.Case.{Case}
 use Rattle.factors.specs.declared.Factors.{Factors}
-use Rattle.sums.specs.Sum.{Benefit, memberPension, lumpSum, survivorPension, entered, revalued, debitOn, exceeds, excessAt, excessDebit, deduction, credit, negative}
+use Rattle.sums.specs.Sum.{Benefit, memberPension, lumpSum, survivorPension, entered, revalued, schemePaysOn, exceeds, schemePaysExceeds, schemePaysFault, deduction, credit, negative}
 
 pub covered :
-    (c : Case) → excessDebit c ≡ false → (j : ℕ) → j < 4 → (b : Benefit) →
-    debitOn b (line c j) ≤ revalued (c .revaluation) (entered b (line c j))
-unfolding excessDebit
-covered c e j h = go (or-false (exceeds v l memberPension) (exceeds v l lumpSum) (any-false 4 (λ i. excessAt v (line c i)) e j h))
+    (c : Case) → schemePaysFault c ≡ false → (j : ℕ) → j < 4 → (b : Benefit) →
+    schemePaysOn b (line c j) ≤ revalued (c .revaluation) (entered b (line c j))
+unfolding schemePaysFault
+covered c e j h = go (or-false (exceeds v l memberPension) (exceeds v l lumpSum) (any-false 4 (λ i. schemePaysExceeds v (line c i)) e j h))
   where
     v : ℕ
     v = c .revaluation
@@ -25,7 +25,7 @@ covered c e j h = go (or-false (exceeds v l memberPension) (exceeds v l lumpSum)
     l : Line
     l = line c j
 
-    go : (exceeds v l memberPension ≡ false) × (exceeds v l lumpSum ≡ false) → (b : Benefit) → debitOn b l ≤ revalued v (entered b l)
+    go : (exceeds v l memberPension ≡ false) × (exceeds v l lumpSum ≡ false) → (b : Benefit) → schemePaysOn b l ≤ revalued v (entered b l)
     go both memberPension = ltb-false _ _ (both .0)
     go both lumpSum = ltb-false _ _ (both .1)
     go both survivorPension = omega arith

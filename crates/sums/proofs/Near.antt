@@ -10,11 +10,11 @@ use lib.Dec.{lit<}
 use Rattle.numbers.specs.Rounding.{nearest, Within}
 use Rattle.numbers.proofs.Rounding.{nearest-near}
 use Rattle.numbers.proofs.Below.{sum-same, sum-at}
-use Rattle.cases.specs.Form.{line}
+use Rattle.cases.specs.Entries.{line}
 use Rattle.cases.specs.declared.Line.{Line}
 use Rattle.cases.specs.declared.Case.{Case}
 use Rattle.factors.specs.declared.Factors.{Factors}
-use Rattle.sums.specs.Sum.{Benefit, memberPension, lumpSum, survivorPension, entered, revalued, debitOn, factor, itemAt, deductionAt, overBenefits, item, deduction, credit, negative, firstBy, grossBy, excessDebit}
+use Rattle.sums.specs.Sum.{Benefit, memberPension, lumpSum, survivorPension, entered, revalued, schemePaysOn, factor, itemAt, deductionAt, overBenefits, item, deduction, credit, negative, grossBy, schemePaysFault}
 use Rattle.sums.proofs.Order.{each, of-each, NoWorse, revalued-mono}
 use Rattle.sums.proofs.Covered.{covered, not-negative}
 
@@ -37,7 +37,7 @@ only-sum survivorPension e g none = omega (arith, none memberPension, none lumpS
 -- line m is line l with e pence more of benefit b, and nothing else that the sum sees
 pub record Raised (b : Benefit) (e : ℕ) (l m : Line) : Type 0 where
   pub benefits : each (λ x. entered x m ≡ entered x l + only b e x)
-  pub debits : each (λ x. debitOn x m ≡ debitOn x l)
+  pub debits : each (λ x. schemePaysOn x m ≡ schemePaysOn x l)
   pub modification : m .modification ≡ l .modification
 
 pub raised-no-worse : (b : Benefit) (e : ℕ) (l m : Line) → Raised b e l m → NoWorse l m
@@ -78,7 +78,7 @@ module _
     (rate : c .revaluation ≡ d .revaluation)
     (rest : (j : ℕ) → (j ≡ i → ⊥) → line c j ≡ line d j)
     (b : Benefit) (e : ℕ) (r : Raised b e (line c i) (line d i))
-    (noExcess : excessDebit c ≡ false) (notNegative : negative f c ≡ false)
+    (noExcess : schemePaysFault c ≡ false) (notNegative : negative f c ≡ false)
   where
     rise : Benefit → ℕ → ℕ
     rise x n = growth (c .revaluation) (entered x (line c i)) n * factor x (f i)
@@ -88,8 +88,8 @@ module _
     item-rises x =
         sum-at 4 (λ j. itemAt (c .revaluation) (f j) (line c j) x) (λ j. itemAt (d .revaluation) (f j) (line d j) x) (rise x (only b e x)) i within
         (λ j n. rw (rate, rest j n))
-        (rw (← rate, of-each (λ y. entered y (line d i) ≡ entered y (line c i) + only b e y) (r .benefits) x, of-each (λ y. debitOn y (line d i) ≡ debitOn y (line c i)) (r .debits) x)
-        (item-grows (c .revaluation) (entered x (line c i)) (only b e x) (debitOn x (line c i)) (factor x (f i)) (covered c noExcess i within x)))
+        (rw (← rate, of-each (λ y. entered y (line d i) ≡ entered y (line c i) + only b e y) (r .benefits) x, of-each (λ y. schemePaysOn y (line d i) ≡ schemePaysOn y (line c i)) (r .debits) x)
+        (item-grows (c .revaluation) (entered x (line c i)) (only b e x) (schemePaysOn x (line c i)) (factor x (f i)) (covered c noExcess i within x)))
 
     credit-rises : credit f d ≡ credit f c + rise b e
     unfolding credit rise
@@ -106,18 +106,13 @@ module _
         go j (yes p) = rw (p, r .modification)
         go j (no n) = rw (rest j n)
 
-    pub first-near :
-        Within ((factor b (f i) + 100) * 10000) (firstBy f d * 1000000) (firstBy f c * 1000000 + e * c .revaluation * factor b (f i))
-    unfolding firstBy rise
-    first-near =
+    pub gross-near :
+        Within ((factor b (f i) + 100) * 10000) (grossBy f d * 1000000) (grossBy f c * 1000000 + e * c .revaluation * factor b (f i))
+    unfolding grossBy rise
+    gross-near =
         rw total
         (rounded-near (credit f c - deduction f c) (growth (c .revaluation) (entered b (line c i)) e) (factor b (f i)) (e * c .revaluation)
         (growth-near (c .revaluation) (entered b (line c i)) e))
       where
         total : credit f d - deduction f d ≡ credit f c - deduction f c + rise b e
         total = omega (arith, credit-rises, deduction-kept, not-negative f c notNegative)
-
-    pub gross-near :
-        Within ((factor b (f i) + 100) * 10000) (grossBy f d * 1000000) (grossBy f c * 1000000 + e * c .revaluation * factor b (f i))
-    unfolding grossBy
-    gross-near = first-near

@@ -1,19 +1,19 @@
 -- The order of gross values and payments: where no line of a case is worse than another case's, nor is what it is worth.
 -- Assumes nothing.
-use Prim.Native.Nat.{ℕ, _+_, _≤_, max}
-use mathlib.Core.Bool.{Bool, true, false, cond}
+use Prim.Native.Nat.{ℕ, zero, suc, _+_, _≤_}
 use mathlib.Core.Path.{_≡_}
 use native.Mathlib.Nat.{mul-le-mul-right}
 use native.Mathlib.Omega.{arith}
-use lib.Dec.{lit<, eqb}
+use lib.Dec.{lit<}
 use Rattle.numbers.proofs.Rounding.{nearest-mono}
 use Rattle.numbers.proofs.Below.{sum-mono}
-use Rattle.cases.specs.Form.{line}
+use Rattle.cases.specs.Entries.{line}
+use Rattle.cases.specs.Kinds.{rulesOf}
 use Rattle.cases.specs.declared.Line.{Line}
 use Rattle.cases.specs.declared.Case.{Case}
 use Rattle.factors.specs.declared.Factors.{Factors}
-use Rattle.sums.specs.Sum.{Benefit, memberPension, lumpSum, survivorPension, entered, revalued, debitOn, factor, itemAt, item, deduction, credit, firstBy, grossBy}
-use Rattle.sums.specs.Payment.{wholePounds, underpin, payment}
+use Rattle.sums.specs.Sum.{Benefit, memberPension, lumpSum, survivorPension, entered, revalued, schemePaysOn, factor, itemAt, item, deduction, credit, grossBy}
+use Rattle.sums.specs.Payment.{inUnits, payment}
 
 -- P of each benefit
 abbrev pub each : (Benefit → Type 0) → Type 0
@@ -27,7 +27,7 @@ of-each P p survivorPension = p .2
 -- line m is no worse than line l: each benefit is at least, each debit and the modification at most that of l
 pub record NoWorse (l m : Line) : Type 0 where
   pub benefits : each (λ b. entered b l ≤ entered b m)
-  pub debits : each (λ b. debitOn b m ≤ debitOn b l)
+  pub debits : each (λ b. schemePaysOn b m ≤ schemePaysOn b l)
   pub modification : m .modification ≤ l .modification
 
 pub no-worse-same : (l : Line) → NoWorse l l
@@ -39,7 +39,7 @@ revalued-mono v h = nearest-mono (lit< tt) (mul-le-mul-right v h)
 pub item-mono : (v : ℕ) (f : Factors) (l m : Line) → NoWorse l m → (b : Benefit) → itemAt v f l b ≤ itemAt v f m b
 item-mono v f l m w b =
     mul-le-mul-right (factor b f)
-    (omega (arith, revalued-mono v (of-each (λ b. entered b l ≤ entered b m) (w .benefits) b), of-each (λ b. debitOn b m ≤ debitOn b l) (w .debits) b))
+    (omega (arith, revalued-mono v (of-each (λ b. entered b l ≤ entered b m) (w .benefits) b), of-each (λ b. schemePaysOn b m ≤ schemePaysOn b l) (w .debits) b))
 
 pub deduction-mono : (f : ℕ → Factors) (c d : Case) → ((j : ℕ) → NoWorse (line c j) (line d j)) → deduction f d ≤ deduction f c
 unfolding deduction
@@ -51,20 +51,16 @@ module _ (f : ℕ → Factors) (c d : Case) (rate : c .revaluation ≡ d .revalu
   unfolding item
   items-mono b = rw rate (sum-mono 4 _ _ (λ j h. item-mono (d .revaluation) (f j) (line c j) (line d j) (w j) b))
 
-  pub first-mono : firstBy f c ≤ firstBy f d
-  unfolding firstBy credit
-  first-mono =
+  pub gross-mono : grossBy f c ≤ grossBy f d
+  unfolding grossBy credit
+  gross-mono =
       nearest-mono (lit< tt) (omega (arith, items-mono memberPension, items-mono lumpSum, items-mono survivorPension, deduction-mono f c d w))
 
-  pub gross-mono : grossBy f c ≤ grossBy f d
-  unfolding grossBy
-  gross-mono = first-mono
-
 -- steps 5 and 6 keep the order
+units-mono : (unit : ℕ) {g h : ℕ} → g ≤ h → inUnits unit g ≤ inUnits unit h
+units-mono zero p = omega arith
+units-mono (suc u) p = mul-le-mul-right (suc u) (nearest-mono {d = suc u} (omega arith) p)
+
 pub payment-mono : (c : Case) {g h : ℕ} → g ≤ h → payment c g ≤ payment c h
 unfolding payment
-payment-mono c {g} {h} p = go (eqb (c .kind) 1)
-  where
-    go : (k : Bool) → cond k (wholePounds g) (max g (underpin c)) + c .avc ≤ cond k (wholePounds h) (max h (underpin c)) + c .avc
-    go true = omega (arith, nearest-mono {d = 100} (lit< tt) p)
-    go false = omega arith
+payment-mono c p = omega (arith, units-mono (rulesOf (c .kind) .unit) p)

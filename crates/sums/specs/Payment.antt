@@ -2,19 +2,20 @@
 -- Assumes nothing.
 use Prim.Native.Nat.{ℕ, _+_, _*_, max}
 use mathlib.Core.Bool.{cond}
-use lib.Dec.{eqb}
 use Rattle.numbers.specs.Rounding.{nearest}
-use Rattle.cases.specs.Form.{transferFlag}
+use Rattle.cases.specs.Flags.{transferFlag}
+use Rattle.cases.specs.Kinds.{rulesOf}
 use Rattle.cases.specs.declared.Case.{Case}
 
--- pence rounded to whole pounds, in pence
-abbrev pub wholePounds : ℕ → ℕ
-wholePounds g = nearest 100 g * 100
-
--- the underpin: transfer-in payment plus own contributions with the transfer flag (003, 2.26), without it 0
+-- the underpin (003, 2.26): what was transferred in, with own contributions; 0 without the transfer flag
 unfoldable pub underpin : Case → ℕ
 underpin c = cond (transferFlag (c .flags)) (c .transfer + c .contributions) 0
 
--- 5: kind 1 pays whole pounds, kind 2 the larger of gross value and underpin; 6: the AVC is added last (house rule)
+-- pence, rounded to a whole number of units of so many pence
+abbrev pub inUnits : ℕ → ℕ → ℕ
+inUnits unit g = nearest unit g * unit
+
+-- 5: the gross value in the kind's unit of payment (kind 1 whole pounds, kind 2 pence), or the underpin where that is larger. A
+-- kind without transfers has no transfer flag, so its underpin is 0. 6: the AVC is added last (house rule)
 unfoldable pub payment : Case → ℕ → ℕ
-payment c g = cond (eqb (c .kind) 1) (wholePounds g) (max g (underpin c)) + c .avc
+payment c g = max (inUnits (rulesOf (c .kind) .unit) g) (underpin c) + c .avc

@@ -2,26 +2,32 @@
 -- Assumes nothing.
 use Prim.Native.Nat.{ℕ}
 use mathlib.Core.Bool.{cond}
-use lib.Dec.{leb, eqb}
-use Rattle.calendar.specs.Moving.{age, yearsAhead}
-use Rattle.cases.specs.Form.{line}
+use lib.Dec.{leb}
+use Rattle.calendar.specs.Moving.{yearsAhead}
+use Rattle.cases.specs.Entries.{line, ageOf}
+use Rattle.cases.specs.Kinds.{rulesOf}
 use Rattle.cases.specs.declared.Case.{Case}
+use Rattle.cases.specs.declared.Table.{Table}
+use Rattle.cases.specs.declared.Table.the-variants.{Section1995, Scheme2015, NoTable}
 use Rattle.factors.specs.Rows.{found, noFactors}
-use Rattle.factors.specs.Tables.{byAge, byYears}
+use Rattle.factors.specs.Tables.{section1995Row, scheme2015Row}
 use Rattle.factors.specs.declared.Factors.{Factors}
 use Rattle.factors.specs.declared.Row.{Row}
-use Rattle.factors.specs.declared.Row.the-variants.{Found}
+use Rattle.factors.specs.declared.Row.the-variants.{Found, Absent}
 
--- age at the guarantee date, and years ahead of line i
-abbrev pub ageOf : Case → ℕ
-ageOf c = age (c .birth) (c .guarantee)
-
+-- years ahead of line i
 abbrev pub aheadOf : Case → ℕ → ℕ
 aheadOf c i = yearsAhead (c .guarantee) (line c i .date)
 
--- the row used on line i: kind 1 by age, kind 2 by years ahead; a line past the count is zero and has factors of zero
+-- a row of a table, for an age or for years ahead
+abbrev pub rowIn : Table → ℕ → ℕ → Row
+rowIn Section1995 age ahead = section1995Row age
+rowIn Scheme2015 age ahead = scheme2015Row ahead
+rowIn NoTable age ahead = Absent
+
+-- the row used on line i, in the table of the kind; a line past the count is zero and has factors of zero
 unfoldable pub rowOf : Case → ℕ → Row
-rowOf c i = cond (leb (c .count) i) (Found noFactors) (cond (eqb (c .kind) 1) (byAge (ageOf c)) (byYears (aheadOf c i)))
+rowOf c i = cond (leb (c .count) i) (Found noFactors) (rowIn (rulesOf (c .kind) .table) (ageOf c) (aheadOf c i))
 
 unfoldable pub factorsOf : Case → ℕ → Factors
 factorsOf c i = found (rowOf c i)

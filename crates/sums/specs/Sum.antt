@@ -5,7 +5,7 @@ use mathlib.Core.Bool.{Bool, _||_}
 use lib.Dec.{ltb}
 use Rattle.numbers.specs.Rounding.{nearest}
 use Rattle.numbers.specs.Below.{sumBelow}
-use Rattle.cases.specs.Form.{line, anyLine}
+use Rattle.cases.specs.Entries.{line, anyLine}
 use Rattle.cases.specs.declared.Line.{Line}
 use Rattle.cases.specs.declared.Case.{Case}
 use Rattle.factors.specs.declared.Factors.{Factors}
@@ -14,24 +14,24 @@ use Rattle.factors.specs.declared.Factors.{Factors}
 pub data Benefit : Type 0 where
   memberPension lumpSum survivorPension : Benefit
 
--- 1: pension plus additional pension; the lump sum; survivor's plus dependant's additional
+-- 1: what is entered of a benefit; additional amounts count with those that they add to
 abbrev pub entered : Benefit → Line → ℕ
 entered memberPension l = l .pension + l .additional
 entered lumpSum l = l .lump
 entered survivorPension l = l .survivor + l .dependant
 
--- 1: times the revaluation factor v, in ten-thousandths, and rounded once to the penny
+-- 1: that times the revaluation factor v, in ten-thousandths, rounded once to the penny
 abbrev pub revalued : ℕ → ℕ → ℕ
 revalued v x = nearest 10000 (x * v)
 
--- 2: the debits come off the revalued pension and lump sum; the survivor's part is not reduced
-abbrev pub debitOn : Benefit → Line → ℕ
-debitOn memberPension l = l .debit
-debitOn lumpSum l = l .«lump_debit»
-debitOn survivorPension l = 0
+-- 2: Scheme Pays reduces the revalued pension and lump sum, and no survivor's pension
+abbrev pub schemePaysOn : Benefit → Line → ℕ
+schemePaysOn memberPension l = l .«scheme_pays»
+schemePaysOn lumpSum l = l .«scheme_pays_lump»
+schemePaysOn survivorPension l = 0
 
 abbrev pub reduced : ℕ → Line → Benefit → ℕ
-reduced v l b = revalued v (entered b l) - debitOn b l
+reduced v l b = revalued v (entered b l) - schemePaysOn b l
 
 -- a benefit's factor, in hundredths
 abbrev pub factor : Benefit → Factors → ℕ
@@ -39,11 +39,11 @@ factor memberPension f = f .pension
 factor lumpSum f = f .lump
 factor survivorPension f = f .survivor
 
--- 3: an item is pence times hundredths, exact in hundredths of a penny
+-- 3: a line's part of an item, in hundredths of a penny; nothing is rounded here
 abbrev pub itemAt : ℕ → Factors → Line → Benefit → ℕ
 itemAt v f l b = reduced v l b * factor b f
 
--- 3: the modification times factor E is taken off
+-- 3: what the modification takes off, by factor E
 abbrev pub deductionAt : Factors → Line → ℕ
 deductionAt f l = l .modification * f .deduction
 
@@ -64,24 +64,20 @@ module _ (f : ℕ → Factors) (c : Case) where
   unfoldable pub credit : ℕ
   credit = overBenefits item
 
-  -- 4: the signed total over all items and lines is below zero
+  -- 4: the total of what is added and what is taken off is below zero
   unfoldable pub negative : Bool
   negative = ltb credit deduction
 
-  -- 4: the signed total is rounded once to the penny; it is used where it is not below zero
-  unfoldable pub firstBy : ℕ
-  firstBy = nearest 100 (credit - deduction)
-
-  -- 4: the gross value
+  -- 4: the gross value: the total, where it is not below zero, rounded once to the penny
   unfoldable pub grossBy : ℕ
-  grossBy = firstBy
+  grossBy = nearest 100 (credit - deduction)
 
--- a debit of line l above the revalued amount that it reduces
+-- Scheme Pays on a benefit of line l is above the revalued amount that it reduces
 abbrev pub exceeds : ℕ → Line → Benefit → Bool
-exceeds v l b = ltb (revalued v (entered b l)) (debitOn b l)
+exceeds v l b = ltb (revalued v (entered b l)) (schemePaysOn b l)
 
-abbrev pub excessAt : ℕ → Line → Bool
-excessAt v l = exceeds v l memberPension || exceeds v l lumpSum
+abbrev pub schemePaysExceeds : ℕ → Line → Bool
+schemePaysExceeds v l = exceeds v l memberPension || exceeds v l lumpSum
 
-unfoldable pub excessDebit : Case → Bool
-excessDebit c = anyLine (λ i l. excessAt (c .revaluation) l) c
+unfoldable pub schemePaysFault : Case → Bool
+schemePaysFault c = anyLine (λ i l. schemePaysExceeds (c .revaluation) l) c

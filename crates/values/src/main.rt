@@ -1,13 +1,9 @@
-// Values a case file on standard input, and writes its lines to standard output. What is read and written is not proved;
-// what is made of it is, in the crates below.
+// Values a case file on standard input, and writes its report to standard output: reads what a run wants, goes a step on, and
+// writes what the step formed. What is read and written is not proved; what the steps make of it is, in the crate `runs`.
 ghost use Prim.Native.Nat.{_≤_};
 ghost use lib.ListN.{length};
 use libc::STDIN_FILENO;
 use libc::STDOUT_FILENO;
-use report::Formed;
-use runs::Counts;
-use runs::blocks_left;
-use runs::run_chunk;
 
 // How many bytes were read, and whether a read failed.
 struct Filled {
@@ -15,27 +11,21 @@ struct Filled {
     failed: bool,
 }
 
-// The counts after a chunk, whether the file may have more, and whether a read or write failed.
-struct Progress {
-    counts: Counts,
-    more: bool,
-    failed: bool,
-}
-
-// Reads until buf is full, the input ends or a read fails: a pipe may hand over a few bytes at a time.
-fn fill(buf: &mut [u8]) -> Filled
-    ensures { λ r. ⌜ r .length ≤ length (now (buf .entry)) ⌝ }
+// Reads until so many bytes are there as are wanted, the input ends or a read fails: a pipe may hand over a few bytes at a time.
+fn fill(buf: &mut [u8], wanted: usize) -> Filled
+    requires { ⌜ wanted ≤ length (now buf) ⌝ }
+    ensures { λ r. ⌜ r .length ≤ wanted ⌝ }
 {
     let mut n: usize = 0;
-    while n < buf.len() {
-        let got = libc::read(STDIN_FILENO, &mut buf[n..]);
+    while n < wanted {
+        let got = libc::read(STDIN_FILENO, &mut buf[n..wanted]);
         if got < 0 {
             return Filled {
                 length: n,
                 failed: true,
             };
         }
-        let more = io::count(got, &buf[n..]);
+        let more = io::count(got, &buf[n..wanted]);
         if more == 0 {
             return Filled {
                 length: n,
@@ -50,117 +40,35 @@ fn fill(buf: &mut [u8]) -> Filled
     }
 }
 
-// How many bytes to read next: no byte past the last block that counts.
-fn wanted(counts: Counts, room: usize) -> usize
-    ensures { λ r. ⌜ r ≤ room ⌝ }
+// Reads what is wanted, and says where that failed.
+fn read(input: &mut [u8; 65536], wanted: usize) -> Filled
+    requires { ⌜ wanted ≤ 65536 ⌝ }
 {
-    let left = blocks_left(counts);
-    if left < room / 512 { left * 512 } else { room }
-}
-
-// How many of the bytes read count: where the read failed, a last part of a block is no block.
-fn kept(n: usize, failed: bool) -> usize
-    ensures { λ r. ⌜ r ≤ n ⌝ }
-{
-    if failed { n - n % 512 } else { n }
-}
-
-// Values what was read and writes its lines.
-fn write_lines(input: &[u8], counts: Counts, failed: bool, out: &mut [u8]) -> Progress {
-    let n = kept(input.len(), failed);
-    let run = run_chunk(&input[0..n], counts, out);
-    let length = run.length;
-    let after = run.counts;
-    if length <= out.len() {
-        if io::write_all(STDOUT_FILENO, &out[0..length]) {
-            return Progress {
-                counts: after,
-                more: true,
-                failed: failed,
-            };
-        }
-    }
-    os::fail(b"standard output");
-    Progress {
-        counts: after,
-        more: false,
-        failed: true,
-    }
-}
-
-// Reads a chunk, values it and writes its lines.
-fn step(input: &mut [u8], out: &mut [u8], counts: Counts) -> Progress {
-    let want = wanted(counts, input.len());
-    let filled = fill(&mut input[0..want]);
-    let n = filled.length;
-    let failed = filled.failed;
-    if failed {
+    let filled = fill(input, wanted);
+    if filled.failed {
         os::fail(b"standard input");
     }
-    if want < n {
-        return Progress {
-            counts: counts,
-            more: false,
-            failed: true,
-        };
-    }
-    let done = write_lines(&input[0..n], counts, failed, out);
-    let after = done.counts;
-    Progress {
-        counts: after,
-        more: done.more & (n == want) & (0 < n),
-        failed: done.failed,
-    }
+    filled
 }
 
-// 7,813 steps of 128 blocks reach 1,000,000 blocks.
-fn run(input: &mut [u8], out: &mut [u8]) -> Progress {
-    let mut counts = Counts { blocks: 0, paid: 0 };
-    let mut steps: u32 = 7813;
-    while 0 < steps {
-        let done = step(input, out, counts);
-        if !done.more {
-            return done;
-        }
-        counts = done.counts;
-        steps -= 1;
+// Writes the first bytes of a buffer, and says where that failed.
+fn write(out: &[u8; 33024], length: usize) -> bool
+    requires { ⌜ length ≤ 33024 ⌝ }
+{
+    let bytes = &out[..];
+    let written = io::write_all(STDOUT_FILENO, &bytes[0..length]);
+    if !written {
+        os::fail(b"standard output");
     }
-    Progress {
-        counts: counts,
-        more: false,
-        failed: false,
-    }
-}
-
-// Writes a line that was formed at the start of out.
-fn write_formed(formed: Formed, out: &[u8]) -> bool {
-    match formed {
-        Formed::Line(n) => {
-            if n <= out.len() {
-                io::write_all(STDOUT_FILENO, &out[0..n])
-            } else {
-                false
-            }
-        }
-        Formed::Refused(_) => false,
-    }
+    written
 }
 
 fn main() {
     let mut input = [0u8; 65536];
-    let mut out = [0u8; 32768];
-    let header = report::form_header(&mut out);
-    if !write_formed(header, &out) {
-        os::fail(b"standard output");
-        return;
-    }
-    let done = run(&mut input, &mut out);
-    if done.failed {
-        return;
-    }
-    let counts = done.counts;
-    let end = report::form_end(&mut out, counts.blocks, counts.paid);
-    if !write_formed(end, &out) {
-        os::fail(b"standard output");
+    let mut out = [0u8; 33024];
+    let mut run = runs::start(&mut out);
+    while write(&out, run.length) & (0 < run.wanted) {
+        let filled = read(&mut input, run.wanted);
+        run = runs::step(run.counts, &input, filled.length, filled.failed, &mut out);
     }
 }

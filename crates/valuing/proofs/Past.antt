@@ -7,34 +7,28 @@ use native.Mathlib.Nat.{mul-zero, add-zero}
 use native.Mathlib.Omega.{arith}
 use borrow.Author.Tests.{le-leb, le-ltb}
 use Rattle.numbers.proofs.Below.{sum-more, any-more}
-use Rattle.cases.specs.Form.{line, formTests, formVerdict}
+use Rattle.cases.specs.Entries.{line}
+use Rattle.cases.specs.Form.{formTests, WellFormed}
 use Rattle.cases.specs.declared.Case.{Case}
-use Rattle.cases.specs.declared.Refusal.the-variants.{Kind, Reserved}
-use Rattle.cases.specs.declared.Verdict.the-variants.{Accepted as Sound}
-use Rattle.cases.proofs.PastCount.{few-lines, zero-past, zero-debits}
+use Rattle.refusals.specs.declared.Refusal.the-variants.{Kind, Reserved}
+use Rattle.refusals.proofs.Order.{none-given}
+use Rattle.cases.proofs.PastCount.{few-lines, zero-past, zero-amounts}
 use Rattle.sums.specs.Rows.{rowOf, factorsOf}
-use Rattle.sums.specs.Sum.{memberPension, lumpSum, entered, revalued, excessAt}
+use Rattle.sums.specs.Sum.{memberPension, lumpSum, entered, revalued, schemePaysExceeds}
 use Rattle.valuing.specs.Totals.{TotalsBelow}
-use Rattle.valuing.specs.Answer.{NoneOf}
-use Rattle.valuing.proofs.Acceptance.{none-applies}
-use Rattle.valuing.proofs.Stages.{first-none}
 use Rattle.valuing.specs.declared.sum.Totals.{Totals}
 
-module _ (c : Case) (sound : formVerdict c ≡ Sound) where
-  none : NoneOf (formTests false c)
-  unfolding formVerdict
-  none = first-none (formTests false c) sound
-
+module _ (c : Case) (well : WellFormed c) where
   pub four-at-most : c .count ≤ 4
-  four-at-most = few-lines (c .kind) (c .count) (none-applies Kind (formTests false c) none)
+  four-at-most = few-lines (c .kind) (c .count) (none-given Kind (formTests false c) well)
 
-  no-excess : (i : ℕ) → i < 4 → c .count ≤ i → excessAt (c .revaluation) (line c i) ≡ false
-  no-excess i h p =
+  no-scheme-pays : (i : ℕ) → i < 4 → c .count ≤ i → schemePaysExceeds (c .revaluation) (line c i) ≡ false
+  no-scheme-pays i h p =
       let l = line c i in
-      let d = zero-debits l (zero-past c (none-applies Reserved (formTests false c) none) i h p) in
+      let d = zero-amounts l (zero-past c (none-given Reserved (formTests false c) well) i h p) in
       rw (
-        le-ltb (revalued (c .revaluation) (entered memberPension l)) (l .debit) (omega arith),
-        le-ltb (revalued (c .revaluation) (entered lumpSum l)) (l .«lump_debit») (omega arith),
+        le-ltb (revalued (c .revaluation) (entered memberPension l)) (l .«scheme_pays») (omega arith),
+        le-ltb (revalued (c .revaluation) (entered lumpSum l)) (l .«scheme_pays_lump») (omega arith),
       )
 
   past : (i : ℕ) (t : Totals) → i < 4 → c .count ≤ i → TotalsBelow c i t → TotalsBelow c (i + 1) t
@@ -47,7 +41,7 @@ module _ (c : Case) (sound : formVerdict c ≡ Sound) where
         survivor = rw (sum-more, b .survivor, q, mul-zero, add-zero);
         deduction = rw (sum-more, b .deduction, q, mul-zero, add-zero);
         missing = rw (any-more, b .missing, q, or-false);
-        excess = rw (any-more, b .excess, no-excess i h p, or-false);
+        excess = rw (any-more, b .excess, no-scheme-pays i h p, or-false);
         bounded = omega (arith, b .bounded);
       }
 

@@ -7,9 +7,9 @@ use native.Mathlib.Omega.{arith}
 use lib.Dec.{ltb}
 use Rattle.numbers.specs.Rounding.{nearest}
 use Rattle.cases.specs.declared.Case.{Case}
-use Rattle.cases.specs.declared.Refusal.the-variants.{Negative}
+use Rattle.refusals.specs.declared.Refusal.the-variants.{Negative}
 use Rattle.sums.specs.Rows.{factorsOf}
-use Rattle.sums.specs.Sum.{item, deduction, credit, negative, firstBy, grossBy}
+use Rattle.sums.specs.Sum.{item, deduction, credit, negative, grossBy}
 use Rattle.sums.specs.Payment.{underpin, payment}
 use Rattle.valuing.specs.Answer.{grossOf, itemsOf}
 use Rattle.valuing.specs.Totals.{TotalsBelow, restOf}
@@ -51,7 +51,7 @@ module _ (c : Case) (t : Totals) (carried : TotalsBelow c 4 t) where
       }
 
   items-are : itemsLeft (t .pension + t .lump + t .survivor - t .deduction) ≡ itemsOf c
-  unfolding itemsOf grossOf grossBy firstBy item
+  unfolding itemsOf grossOf grossBy item
   items-are = λ i.
       record {
         payment = payment c (nearest 100 (credit-is i - deduction-is i));

@@ -4,12 +4,11 @@ use Prim.Native.Nat.{ℕ, _-_}
 use mathlib.Core.List.{List, [], _∷_}
 use Rattle.calendar.specs.Moving.{age, yearsAhead}
 use Rattle.calendar.specs.declared.Date.{Date}
-use Rattle.cases.specs.Block.{lineBy}
-use Rattle.cases.specs.Form.{line}
-use Rattle.cases.specs.Refusals.{numberOf}
+use Rattle.cases.specs.Entries.{lineBy, line, ageOf}
+use Rattle.refusals.specs.Refusals.{numberOf}
 use Rattle.cases.specs.declared.Line.{Line}
 use Rattle.cases.specs.declared.Case.{Case}
-use Rattle.sums.specs.Rows.{ageOf, factorsOf}
+use Rattle.sums.specs.Rows.{factorsOf}
 use Rattle.sums.specs.Sum.{Benefit, memberPension, survivorPension, revalued, reduced, factor, credit, deduction}
 use Rattle.valuing.specs.declared.Outcome.{Outcome}
 use Rattle.valuing.specs.declared.Outcome.the-variants.{Paid, Refused}
@@ -68,9 +67,9 @@ member kind birth leaving guarantee revaluation first =
     }
 
 -- a line in the block's order: date, pension, additional pension, survivor's pension, dependant's additional pension,
--- lump sum, modification, debit; no lump sum debit
+-- lump sum, modification, Scheme Pays on the pension; none on the lump sum
 abbrev pub lineOf : Date → ℕ → ℕ → ℕ → ℕ → ℕ → ℕ → ℕ → Line
-lineOf date pension additional survivor dependant lump modification debit =
+lineOf date pension additional survivor dependant lump modification schemePays =
     record {
       date = date;
       pension = pension;
@@ -79,8 +78,8 @@ lineOf date pension additional survivor dependant lump modification debit =
       dependant = dependant;
       lump = lump;
       modification = modification;
-      debit = debit;
-      «lump_debit» = 0;
+      «scheme_pays» = schemePays;
+      «scheme_pays_lump» = 0;
     }
 
 -- Example A of 001
@@ -95,11 +94,11 @@ exampleC =
     member 2 (date 1 11 1952) (date 1 11 2015) (date 1 2 2016) 10496
     (lineOf (date 1 11 2017) 350000 0 118125 0 0 0 0)
 
--- kind 1, age 54, no revaluation: a pension, a survivor's pension, a modification and a debit
+-- kind 1, age 54, no revaluation: a pension, a survivor's pension, a modification and Scheme Pays
 abbrev pub aged54 : ℕ → ℕ → ℕ → ℕ → Case
-aged54 pension survivor modification debit =
+aged54 pension survivor modification schemePays =
     member 1 (date 1 6 1967) (date 1 4 2012) (date 1 6 2021) 10000
-    (lineOf (date 0 0 0) pension 0 survivor 0 0 modification debit)
+    (lineOf (date 0 0 0) pension 0 survivor 0 0 modification schemePays)
 
 -- one row: what is worked out, and what is stated
 pub record Figure : Type 0 where

@@ -1,6 +1,5 @@
 pub mod Totals
 pub mod Answer
-pub mod Entries
 pub mod Compare
 pub mod Figures
 pub mod Block

@@ -1,16 +1,18 @@
 // Reading a block and valuing its case.
 ghost use mathlib.Core.Path.{_≡_};
-ghost use Rattle.valuing.specs.Block.{blockAnswer};
+ghost use Rattle.valuing.specs.Block.{blockAnswer, answerNumbers, BlockDemand3};
 use crate::Answer;
 use crate::Outcome;
-use crate::valuation::value_sound;
-use cases::Verdict;
-use cases::read_block;
+use crate::valuation::value_well_formed;
+use blocks::read_block;
+use refusals::Verdict;
 
 // The answer to a block of any length: reading's refusal, or what valuing answers to the case that it holds. Reading has
 // already asked refusals 3, 4 and 5 of that case.
 pub fn value_block(b: &[u8]) -> Answer
-    ensures { λ r. ⌜ r ≡ blockAnswer (now (b .entry)) ⌝ }
+    ensures answer { λ r. ⌜ r ≡ blockAnswer (now (b .entry)) ⌝ }
+    ensures numbers { λ r. ⌜ answerNumbers r ≡ answerNumbers (blockAnswer (now (b .entry))) ⌝ }
+    ensures compared { λ r. ⌜ BlockDemand3 (now (b .entry)) r ⌝ }
 {
     let reading = read_block(b);
     let verdict = reading.verdict;
@@ -20,9 +22,9 @@ pub fn value_block(b: &[u8]) -> Answer
             number: 0,
             outcome: Outcome::Refused(why),
         },
-        Verdict::Accepted => Answer {
+        Verdict::Passed => Answer {
             number: case.number,
-            outcome: value_sound(case),
+            outcome: value_well_formed(case),
         },
     }
 }

@@ -1,12 +1,11 @@
 // Valuing a case: what is paid, or why it is refused.
 mod block;
-mod dates;
 mod pay;
 mod sum;
 mod valuation;
 
 pub use block::value_block;
-use cases::Refusal;
+use refusals::Refusal;
 pub use valuation::value;
 
 // The payment and its items: payment, underpin and AVC in pence, the others in hundredths of a penny, over all lines.

@@ -2,8 +2,8 @@
 ghost use mathlib.Core.Path.{_≡_};
 ghost use mathlib.Core.Bool.{cond, false};
 ghost use Prim.Native.Nat.{_+_, _≤_, _<_, _^_, max};
+ghost use Rattle.refusals.specs.declared.Refusal.the-variants.{Negative};
 ghost use Rattle.cases.specs.Form.{rangeFault};
-ghost use Rattle.cases.specs.declared.Refusal.the-variants.{Negative};
 ghost use Rattle.sums.specs.Rows.{factorsOf};
 ghost use Rattle.sums.specs.Sum.{negative};
 ghost use Rattle.sums.specs.Payment as payment;
@@ -15,13 +15,15 @@ use crate::sum::Rest;
 use crate::sum::Totals;
 use crate::sum::take_off;
 use cases::Case;
-use cases::Refusal;
+use cases::rules_of;
+use cases::transfer_flag;
+use refusals::Refusal;
 
 fn underpin(c: Case) -> u64
     requires { ⌜ rangeFault c ≡ false ⌝ }
     ensures { λ r. ⌜ r ≡ payment.underpin c ⌝ }
 {
-    if c.flags % 2 == 1 {
+    if transfer_flag(c.flags) {
         c.transfer + c.contributions
     } else {
         0
@@ -34,24 +36,32 @@ fn larger(a: u64, b: u64) -> u64
     if a < b { b } else { a }
 }
 
-// Pence rounded to whole pounds, in pence.
-fn whole_pounds(gross: u64) -> u64
-    requires { ⌜ gross < 2 ^ 63 ⌝ }
-    ensures { λ r. ⌜ (r ≡ payment.wholePounds gross) × (r ≤ gross + 100) ⌝ }
+// Pence, rounded to a whole number of units; to the penny there is nothing to round.
+fn in_units(gross: u64, unit: u64) -> u64
+    requires { ⌜ (gross < 2 ^ 62) × (unit ≤ 100) ⌝ }
+    ensures { λ r. ⌜ (r ≡ payment.inUnits unit gross) × (r ≤ gross + 100) ⌝ }
 {
-    numbers::nearest(gross, 100) * 100
+    if unit == 1 {
+        gross
+    } else {
+        numbers::nearest(gross, unit) * unit
+    }
+}
+
+// The gross value in units or the underpin, whichever is larger, and the AVC.
+fn with_avc(gross: u64, unit: u64, underpin: u64, avc: u64) -> u64
+    requires { ⌜ (gross < 2 ^ 62) × (unit ≤ 100) × (underpin ≤ 2000000000) × (avc ≤ 1000000000) ⌝ }
+    ensures { λ r. ⌜ r ≡ max (payment.inUnits unit gross) underpin + avc ⌝ }
+{
+    larger(in_units(gross, unit), underpin) + avc
 }
 
 fn pay(c: Case, gross: u64) -> u64
     requires { ⌜ (rangeFault c ≡ false) × (gross < 2 ^ 62) ⌝ }
     ensures { λ r. ⌜ r ≡ payment.payment c gross ⌝ }
 {
-    let avc = c.avc;
-    if c.kind == 1 {
-        whole_pounds(gross) + avc
-    } else {
-        larger(gross, underpin(c)) + avc
-    }
+    let rules = rules_of(c.kind);
+    with_avc(gross, rules.unit, underpin(c), c.avc)
 }
 
 // The payment with its items, or refusal 14.

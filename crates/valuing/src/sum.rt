@@ -2,18 +2,21 @@
 ghost use mathlib.Core.Path.{_≡_};
 ghost use Prim.Native.Nat.{_+_, _-_, _*_, _<_, _≤_, _^_};
 ghost use lib.Dec.{ltb};
-ghost use Rattle.cases.specs.Form.{formVerdict};
-ghost use Rattle.cases.specs.declared.Verdict.the-variants.{Accepted};
+ghost use Rattle.calendar.specs.Moving.{yearsAhead};
+ghost use Rattle.cases.specs.Form.{WellFormed};
 ghost use Rattle.factors.specs.Rows.{absent, found, Small};
+ghost use Rattle.sums.specs.Rows.{rowIn};
 ghost use Rattle.sums.specs.Sum.{revalued};
-ghost use Rattle.valuing.specs.Totals.{LineInRange, rowFor, TotalsAt, TotalsBelow, Bounded, plusTotals, restOf};
+ghost use Rattle.valuing.specs.Totals.{LineInRange, TotalsAt, TotalsBy, TotalsBelow, Bounded, plusTotals, restOf};
 use calendar::Date;
 use cases::Case;
 use cases::Line;
+use cases::Table;
+use cases::rules_of;
 use factors::Factors;
 use factors::Row;
 
-// Items and deduction in hundredths of a penny, whether a row is absent, and whether a debit exceeds what it reduces.
+// Items and deduction in hundredths of a penny, whether a row is absent, and whether Scheme Pays exceeds what it reduces.
 pub(crate) struct Totals {
     pub pension: u64,
     pub lump: u64,
@@ -29,20 +32,20 @@ pub(crate) enum Rest {
     Below,
 }
 
-// A benefit of a line: its item, and whether its debit exceeds the revalued amount.
+// A benefit of a line: its part of the item, and whether Scheme Pays exceeds the revalued amount.
 struct Item {
     pub amount: u64,
     pub excess: bool,
 }
 
-// The row for a line within the count.
-fn row_for(kind: u16, age: u16, ahead: u32) -> Row
-    ensures { λ r. ⌜ r ≡ rowFor kind age ahead ⌝ }
+// The row of a table for an age or for years ahead.
+fn row_for(table: Table, age: u16, ahead: u32) -> Row
+    ensures { λ r. ⌜ r ≡ rowIn table age ahead ⌝ }
 {
-    if kind == 1 {
-        factors::by_age(age)
-    } else {
-        factors::by_years(ahead)
+    match table {
+        Table::Section1995 => factors::section_1995_row(age),
+        Table::Scheme2015 => factors::scheme_2015_row(ahead),
+        Table::NoTable => Row::Absent,
     }
 }
 
@@ -86,19 +89,19 @@ fn times(reduced: u64, factor: u64) -> u64
     reduced * factor
 }
 
-fn item_of(entered: u64, debit: u64, v: u32, factor: u64) -> Item
+fn item_of(entered: u64, scheme_pays: u64, v: u32, factor: u64) -> Item
     requires { ⌜ (entered ≤ 2000000000) × (v ≤ 100000) × (factor ≤ 9999) ⌝ }
-    ensures { λ r. ⌜ (r .amount ≡ (revalued v entered - debit) * factor) × (r .excess ≡ ltb (revalued v entered) debit) × (r .amount ≤ 200000000000000) ⌝ }
+    ensures { λ r. ⌜ (r .amount ≡ (revalued v entered - «scheme_pays») * factor) × (r .excess ≡ ltb (revalued v entered) «scheme_pays») × (r .amount ≤ 200000000000000) ⌝ }
 {
     let revalued = revalue(entered, v);
-    if revalued < debit {
+    if revalued < scheme_pays {
         Item {
             amount: 0,
             excess: true,
         }
     } else {
         Item {
-            amount: times(revalued - debit, factor),
+            amount: times(revalued - scheme_pays, factor),
             excess: false,
         }
     }
@@ -109,8 +112,8 @@ fn line_totals(l: Line, v: u32, f: Factors, missing: bool) -> Totals
     requires { ⌜ LineInRange l × (v ≤ 100000) × Small f ⌝ }
     ensures { λ r. ⌜ TotalsAt v f l missing r ⌝ }
 {
-    let pension = item_of(l.pension + l.additional, l.debit, v, f.pension);
-    let lump = item_of(l.lump, l.lump_debit, v, f.lump);
+    let pension = item_of(l.pension + l.additional, l.scheme_pays, v, f.pension);
+    let lump = item_of(l.lump, l.scheme_pays_lump, v, f.lump);
     let survivor = item_of(l.survivor + l.dependant, 0, v, f.survivor);
     Totals {
         pension: pension.amount,
@@ -120,6 +123,15 @@ fn line_totals(l: Line, v: u32, f: Factors, missing: bool) -> Totals
         absent: missing,
         excess: pension.excess | lump.excess,
     }
+}
+
+// The same by the line's row in a table.
+fn totals_by_row(table: Table, age: u16, guarantee: Date, v: u32, l: Line) -> Totals
+    requires { ⌜ LineInRange l × (v ≤ 100000) ⌝ }
+    ensures { λ r. ⌜ TotalsBy (rowIn table age (yearsAhead guarantee (l .date))) v l r ⌝ }
+{
+    let row = row_for(table, age, calendar::years_ahead(guarantee, l.date));
+    line_totals(l, v, found_or_zero(row), is_absent(row))
 }
 
 fn plus(a: Totals, b: Totals) -> Totals
@@ -138,9 +150,11 @@ fn plus(a: Totals, b: Totals) -> Totals
 
 // The totals over all lines; those past the count add nothing.
 pub(crate) fn case_totals(c: Case) -> Totals
-    requires { ⌜ formVerdict c ≡ Accepted ⌝ }
+    requires { ⌜ WellFormed c ⌝ }
     ensures { λ r. ⌜ TotalsBelow c 4 r ⌝ }
 {
+    let rules = rules_of(c.kind);
+    let table = rules.table;
     let age = calendar::age(c.birth, c.guarantee);
     let mut sum = Totals {
         pension: 0,
@@ -154,10 +168,10 @@ pub(crate) fn case_totals(c: Case) -> Totals
     while i < c.count {
         let k = i as usize;
         let l = c.lines[k];
-        let ahead = calendar::years_ahead(c.guarantee, l.date);
-        let row = row_for(c.kind, age, ahead);
-        let line = line_totals(l, c.revaluation, found_or_zero(row), is_absent(row));
-        sum = plus(sum, line);
+        sum = plus(
+            sum,
+            totals_by_row(table, age, c.guarantee, c.revaluation, l),
+        );
         i += 1;
     }
     sum

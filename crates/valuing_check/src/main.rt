@@ -6,9 +6,9 @@
 use calendar::Date;
 use cases::Case;
 use cases::Line;
-use cases::Refusal;
 use libc::STDIN_FILENO;
 use libc::STDOUT_FILENO;
+use refusals::Refusal;
 use valuing::Items;
 use valuing::Outcome;
 
@@ -41,8 +41,8 @@ fn line(b: &[u8]) -> Line {
         dependant: buffers::u64_at(b, 32),
         lump: buffers::u64_at(b, 40),
         modification: buffers::u64_at(b, 48),
-        debit: buffers::u64_at(b, 56),
-        lump_debit: buffers::u64_at(b, 64),
+        scheme_pays: buffers::u64_at(b, 56),
+        scheme_pays_lump: buffers::u64_at(b, 64),
     }
 }
 
@@ -68,15 +68,9 @@ fn case_of(b: &[u8], lines: [Line; 4]) -> Case {
     }
 }
 
-fn put_number(out: &mut [u8], at: usize, n: u64) -> usize {
-    let mut text = [0u8; 20];
-    let k = io::decimal(n, &mut text);
-    buffers::put(out, at, &text[..k])
-}
-
 fn put_after(out: &mut [u8], at: usize, word: &[u8], n: u64) -> usize {
     let start = buffers::put(out, at, word);
-    put_number(out, start, n)
+    buffers::put_decimal(out, start, n)
 }
 
 fn put_benefits(out: &mut [u8], at: usize, m: Items) -> usize {
@@ -93,21 +87,10 @@ fn put_items(out: &mut [u8], at: usize, m: Items) -> usize {
     put_after(out, underpin, b" avc ", m.avc)
 }
 
-// Writes the first n bytes of a text, where it has so many.
-fn put_start(out: &mut [u8], at: usize, text: &[u8], n: usize) -> usize {
-    if n <= text.len() {
-        buffers::put(out, at, &text[0..n])
-    } else {
-        at
-    }
-}
-
 fn put_refusal(out: &mut [u8], at: usize, why: Refusal) -> usize {
-    let number = put_after(out, at, b" refused ", cases::refusal_number(why) as u64);
+    let number = put_after(out, at, b" refused ", refusals::refusal_number(why) as u64);
     let start = buffers::put(out, number, b" ");
-    let name = cases::refusal_name(why);
-    let bytes = name.bytes;
-    put_start(out, start, &bytes, name.length)
+    refusals::put_name(out, start, why)
 }
 
 fn put_outcome(out: &mut [u8], at: usize, r: Outcome) -> usize {
@@ -125,7 +108,7 @@ fn print_start(text: &[u8], n: usize) {
 
 fn print_outcome(place: u64, number: u32, r: Outcome) {
     let mut out = [0u8; 256];
-    let start = put_number(&mut out, 0, place);
+    let start = buffers::put_decimal(&mut out, 0, place);
     let words = put_after(&mut out, start, b" ", number as u64);
     let outcome = put_outcome(&mut out, words, r);
     let end = buffers::put(&mut out, outcome, b"\n");

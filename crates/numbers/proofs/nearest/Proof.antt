@@ -11,26 +11,24 @@ use Rattle.numbers.proofs.nearest.Tie as tie
 returns : tie.Need-returns
 returns c = rw (c .if1 .taken) (sym (nearest-none (c .before .args .amount)))
 
-div-whole : tie.Need-div-whole
-div-whole c = search needs
-
-rem-over : tie.Need-rem-over
-rem-over c = search needs
-
 sub-if2 : tie.Need-sub-if2
 sub-if2 c = omega (arith, mod-lt (c .before .args .amount) {m = c .before .args .unit} (omega arith))
 
 add-result : tie.Need-add-result
-add-result c = let a = c .before .before .args in omega (arith, up-fits (a .unit) (a .amount) (omega arith) (omega arith))
+add-result c =
+    let args = c .before .before .args in
+    omega (arith, up-fits (args .unit) (args .amount) (omega arith) (omega arith))
 
 returns-2 : tie.Need-returns-2
 returns-2 c =
-    let a = c .before .before .args in
-    sym (nearest-up (a .unit) (a .amount) (omega arith) (omega arith) (mod-lt (a .amount) (omega arith)))
+    let args = c .before .before .args in
+    sym (nearest-up (args .unit) (args .amount) (omega arith) (omega arith) (mod-lt (args .amount) (omega arith)))
 
 returns-3 : tie.Need-returns-3
-returns-3 c = let a = c .before .before .args in sym (nearest-down (a .unit) (a .amount) (omega arith) (omega arith))
+returns-3 c =
+    let args = c .before .before .args in
+    sym (nearest-down (args .unit) (args .amount) (omega arith) (omega arith))
 
 pub nearest-spec : {M : Type 1} → statement M
 nearest-spec =
-    tie.close (tie.spec returns div-whole rem-over sub-if2 add-result returns-2 returns-3)
+    tie.close (tie.spec returns (λ c. search needs) (λ c. search needs) sub-if2 add-result returns-2 returns-3)

@@ -1,7 +1,7 @@
 -- `stages_read` meets its contract.
 -- Assumes nothing.
 use mathlib.Core.Path.{ap}
-use Rattle.cases.specs.declared.Reading.{Reading}
+use Rattle.blocks.specs.declared.Reading.{Reading}
 use borrow.Author.Needs.{needs}
 use Rattle.stages.proofs.stages_read.Statement.{statement}
 use Rattle.stages.proofs.stages_read.Tie as tie

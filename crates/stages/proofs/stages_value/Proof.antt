@@ -14,7 +14,7 @@ amount-requires : tie.Need-amount-requires
 amount-requires c κs = search needs
 
 returns : tie.Need-returns
-returns c = c .amount .ensures ∙ ap (λ (a : Answer). paid (a .outcome)) (c .before .value-block .ensures)
+returns c = c .amount .ensures ∙ ap (λ (a : Answer). paid (a .outcome)) (c .before .value-block .ensures .0)
 
 pub stages-value-spec : {M : Type 1} → statement M
 stages-value-spec = tie.close (tie.spec value-block-requires amount-requires returns)

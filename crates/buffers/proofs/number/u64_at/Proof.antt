@@ -9,50 +9,22 @@ use Rattle.buffers.proofs.number.u64_at.Statement.{statement}
 use Rattle.buffers.proofs.number.u64_at.Tie as tie
 
 returns : tie.Need-returns
-returns c = sym (number-none 8 (now (c .before .before .args .b)) (c .before .before .args .at) (omega arith))
-
-sub-if2 : tie.Need-sub-if2
-sub-if2 c = search needs
+returns c = let args = c .before .before .args in sym (number-none 8 (now (args .b)) (args .at) (omega arith))
 
 returns-2 : tie.Need-returns-2
-returns-2 c = sym (number-none 8 (now (c .before .before .before .args .b)) (c .before .before .before .args .at) (omega arith))
-
-u32-at-requires : tie.Need-u32-at-requires
-u32-at-requires c κs = search needs
-
-cast-low : tie.Need-cast-low
-cast-low c = search needs
-
-add-u32-at : tie.Need-add-u32-at
-add-u32-at c = search needs
-
-u32-at-requires-2 : tie.Need-u32-at-requires-2
-u32-at-requires-2 c κs = search needs
-
-cast-high : tie.Need-cast-high
-cast-high c = search needs
-
-mul-result : tie.Need-mul-result
-mul-result c = search needs
-
-add-result : tie.Need-add-result
-add-result c = search needs
+returns-2 c = let args = c .before .before .before .args in sym (number-none 8 (now (args .b)) (args .at) (omega arith))
 
 returns-3 : tie.Need-returns-3
-returns-3 c = rw (c .before .u32-at .ensures, c .u32-at2 .ensures) (sym (number-join 4 4 (now (c .before .before .before .before .before .args .b)) (c .before .before .before .before .before .args .at) (omega arith)))
+returns-3 c =
+    let args = c .before .before .before .before .before .args in
+    rw (c .before .u32-at .ensures, c .u32-at2 .ensures) (sym (number-join 4 4 (now (args .b)) (args .at) (omega arith)))
 
 pub u64-at-spec : {M : Type 1} → statement M
 u64-at-spec =
     tie.close
     (tie.spec
     returns
-    sub-if2
-    returns-2
-    u32-at-requires
-    cast-low
-    add-u32-at
-    u32-at-requires-2
-    cast-high
-    mul-result
-    add-result
+    (λ c. search needs) returns-2
+    (λ c κs. search needs) (λ c. search needs) (λ c. search needs)
+    (λ c κs. search needs) (λ c. search needs) (λ c. search needs) (λ c. search needs)
     returns-3)

@@ -9,13 +9,10 @@ use Rattle.buffers.proofs.number.u8_at.Statement.{statement}
 use Rattle.buffers.proofs.number.u8_at.Tie as tie
 
 returns : tie.Need-returns
-returns c = sym (number-none 1 (now (c .before .args .b)) (c .before .args .at) (omega arith))
-
-shared-slice-read-result : tie.Need-shared-slice-read-result
-shared-slice-read-result c = search needs
+returns c = let args = c .before .args in sym (number-none 1 (now (args .b)) (args .at) (omega arith))
 
 returns-2 : tie.Need-returns-2
-returns-2 c = sym (number-one (now (c .before .before .args .b)) (c .before .before .args .at) (omega arith))
+returns-2 c = let args = c .before .before .args in sym (number-one (now (args .b)) (args .at) (omega arith))
 
 pub u8-at-spec : {M : Type 1} → statement M
-u8-at-spec = tie.close (tie.spec returns shared-slice-read-result returns-2)
+u8-at-spec = tie.close (tie.spec returns (λ c. search needs) returns-2)

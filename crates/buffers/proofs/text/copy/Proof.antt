@@ -19,27 +19,14 @@ abbrev μ-loop : tie.MeasureT-loop
 loop-holds : tie.Need-loop-holds Inv-loop μ-loop
 loop-holds c = (omega arith, paste-zero (now (c .args .out)) (c .args .at) (now (c .args .text)), refl)
 
-shared-slice-read-out : tie.Need-shared-slice-read-out Inv-loop μ-loop
-shared-slice-read-out c = omega arith
-
-add-out : tie.Need-add-out Inv-loop μ-loop
-add-out c = omega arith
-
-slice-write-out : tie.Need-slice-write-out Inv-loop μ-loop
-slice-write-out c = omega arith
-
-add-i : tie.Need-add-i Inv-loop μ-loop
-add-i c = omega arith
-
-loop-less : tie.Need-loop-less Inv-loop μ-loop
-loop-less c = omega arith
-
 loop-again : tie.Need-loop-again Inv-loop μ-loop
-loop-again c = (
-  omega arith,
-  rw (add-one, c .before .before .loop .inv .1) (paste-suc (now (c .before .before .before .args .out)) (c .before .before .before .args .at) (now (c .before .before .before .args .text)) (c .before .before .loop .i) 0 (omega arith) (omega arith)),
-  simp length-set (c .before .before .loop .inv .2),
-)
+loop-again c =
+    let turn = c .before .before in
+    let args = turn .before .args in (
+      omega arith,
+      rw (add-one, turn .loop .inv .1) (paste-suc (now (args .out)) (args .at) (now (args .text)) (turn .loop .i) 0 (omega arith) (omega arith)),
+      simp length-set (turn .loop .inv .2),
+    )
 
 same-length : tie.Need-same-length Inv-loop μ-loop
 same-length c = c .before .loop .inv .2
@@ -51,14 +38,6 @@ pub copy-spec : {M : Type 1} → statement M
 copy-spec =
     tie.close
     (tie.spec
-    Inv-loop
-    μ-loop
-    loop-holds
-    shared-slice-read-out
-    add-out
-    slice-write-out
-    add-i
-    loop-less
-    loop-again
-    same-length
-    returns)
+    Inv-loop μ-loop loop-holds
+    (λ c. omega arith) (λ c. omega arith) (λ c. omega arith) (λ c. omega arith) (λ c. omega arith)
+    loop-again same-length returns)

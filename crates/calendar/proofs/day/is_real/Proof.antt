@@ -1,16 +1,13 @@
 -- `is_real` meets its contract.
 -- Assumes nothing.
-use Rattle.calendar.specs.Dates.{isReal}
 use borrow.Author.Needs.{needs}
+use Rattle.calendar.specs.Dates.{isReal}
 use Rattle.calendar.proofs.day.is_real.Statement.{statement}
 use Rattle.calendar.proofs.day.is_real.Tie as tie
-
-days-in-requires : tie.Need-days-in-requires
-days-in-requires c κs = search needs
 
 returns : tie.Need-returns
 unfolding isReal
 returns c = rw (c .before .days-in .ensures)
 
 pub is-real-spec : {M : Type 1} → statement M
-is-real-spec = tie.close (tie.spec days-in-requires returns)
+is-real-spec = tie.close (tie.spec (λ c κs. search needs) returns)

@@ -1,49 +1,35 @@
 -- `form_verdict` meets its contract.
 -- Assumes nothing.
 use mathlib.Core.Path.{_≡_, ap}
-use Rattle.cases.specs.Refusals.{verdictNumber}
-use Rattle.cases.specs.Form.{formVerdict, reservedFault, rangeFault}
 use borrow.Author.Needs.{needs}
+use Rattle.refusals.specs.Tests.{first, verdictNumber}
+use Rattle.cases.specs.Form.{reservedFault, rangeFault, formTests}
 use Rattle.cases.proofs.form.form_verdict.Statement.{statement}
 use Rattle.cases.proofs.form.form_verdict.Tie as tie
 
-line-faults-requires : tie.Need-line-faults-requires
-line-faults-requires c κs = search needs
-
-head-range-requires : tie.Need-head-range-requires
-head-range-requires c κs = search needs
-
-refuse-if-requires : tie.Need-refuse-if-requires
-refuse-if-requires c κs = search needs
-
-head-reserved-requires : tie.Need-head-reserved-requires
-head-reserved-requires c κs = search needs
-
-refuse-if-requires-2 : tie.Need-refuse-if-requires-2
-refuse-if-requires-2 c κs = search needs
-
-kind-fault-requires : tie.Need-kind-fault-requires
-kind-fault-requires c κs = search needs
-
-refuse-if-requires-3 : tie.Need-refuse-if-requires-3
-refuse-if-requires-3 c κs = search needs
-
 returns : tie.Need-returns
-unfolding formVerdict reservedFault rangeFault
+unfolding reservedFault rangeFault
 returns c =
-    let e : c .refuse-if3 .result ≡ formVerdict (c .before .before .before .before .before .before .before .before .before .args .c) =
-    rw (c .refuse-if3 .ensures, c .before .kind-fault .ensures, c .before .before .refuse-if2 .ensures, c .before .before .before .before .head-reserved .ensures, c .before .before .before .before .before .before .before .before .line-faults .ensures .0, c .before .before .before .before .before .refuse-if .ensures, c .before .before .before .before .before .before .before .head-range .ensures, c .before .before .before .before .before .before .before .before .line-faults .ensures .1) in
+    let args = c .before .before .before .before .before .before .before .before .before .args in
+    let faults-of-lines = c .before .before .before .before .before .before .before .before .faults-of-lines in
+    let head-range-fault = c .before .before .before .before .before .before .before .head-range-fault in
+    let refuse-if = c .before .before .before .before .before .refuse-if in
+    let head-reserved-fault = c .before .before .before .before .head-reserved-fault in
+    let refuse-if2 = c .before .before .refuse-if2 in
+    let kind-fault = c .before .kind-fault in
+    let e : c .refuse-if3 .result ≡ first (formTests (args .unnamed) (args .c)) =
+    rw (c .refuse-if3 .ensures .0, kind-fault .ensures, refuse-if2 .ensures .0, head-reserved-fault .ensures, faults-of-lines .ensures .0, refuse-if .ensures .0, head-range-fault .ensures, faults-of-lines .ensures .1) in
     (e, ap verdictNumber e)
 
 pub form-verdict-spec : {M : Type 1} → statement M
 form-verdict-spec =
     tie.close
     (tie.spec
-    line-faults-requires
-    head-range-requires
-    refuse-if-requires
-    head-reserved-requires
-    refuse-if-requires-2
-    kind-fault-requires
-    refuse-if-requires-3
+    (λ c κs. search needs)
+    (λ c κs. search needs)
+    (λ c κs. search needs)
+    (λ c κs. search needs)
+    (λ c κs. search needs)
+    (λ c κs. search needs)
+    (λ c κs. search needs)
     returns)

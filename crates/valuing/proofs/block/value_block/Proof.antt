@@ -1,41 +1,55 @@
 -- `value_block` meets its contract.
 -- Assumes nothing.
-use mathlib.Core.Path.{sym, ap, _∙_}
+use mathlib.Core.List.{List}
+use mathlib.Core.Path.{_≡_, sym, ap, _∙_}
+use Prim.Native.Nat.{ℕ}
 use denote.Ref.{now}
-use Rattle.cases.proofs.Order.{accepted-form}
-use Rattle.cases.specs.declared.Reading.{Reading}
-use Rattle.valuing.specs.Block.{blockAnswer}
+use Rattle.blocks.specs.declared.Reading.{Reading}
+use Rattle.blocks.proofs.Order.{read-well-formed}
+use Rattle.valuing.specs.Block.{blockAnswer, answerNumbers, BlockDemand3}
+use Rattle.valuing.specs.declared.Answer.{Answer}
+use Rattle.valuing.specs.declared.Outcome.the-variants.{Refused}
+use Rattle.valuing.proofs.Comparison.{block-demand3}
 use borrow.Author.Needs.{needs}
 use Rattle.valuing.proofs.block.value_block.Statement.{statement}
 use Rattle.valuing.proofs.block.value_block.Tie as tie
 
-read-block-requires : tie.Need-read-block-requires
-read-block-requires c κs = search needs
+value-well-formed-requires : tie.Need-value-well-formed-requires
+value-well-formed-requires c κs =
+    let args = c .before .before .before .before .before .args in
+    let read-block = c .before .before .before .read-block in
+    let enum-told = c .enum-told in
+    rw (read-block .ensures .0) (read-well-formed (now (args .b)) (sym (ap (λ (r : Reading). r .verdict) (read-block .ensures .0)) ∙ enum-told .given .1))
 
-enum-known-verdict : tie.Need-enum-known-verdict
-enum-known-verdict c = search needs
-
-enum-told : tie.Need-enum-told
-enum-told c = search needs
-
-value-sound-requires : tie.Need-value-sound-requires
-value-sound-requires c κs = rw (c .before .before .before .read-block .ensures .0) (accepted-form (now (c .before .before .before .before .before .args .b)) (sym (ap (λ (r : Reading). r .verdict) (c .before .before .before .read-block .ensures .0)) ∙ c .enum-told .given .1))
+-- the answer gives its numbers and demand 3
+promised :
+    (s : List ℕ) (a : Answer) → a ≡ blockAnswer s → (a ≡ blockAnswer s) × ((answerNumbers a ≡ answerNumbers (blockAnswer s)) × BlockDemand3 s a)
+promised s a e = (e, (ap answerNumbers e, block-demand3 s a e))
 
 returns : tie.Need-returns
 unfolding blockAnswer
-returns c = rw (← c .before .before .before .before .read-block .ensures .0, c .before .verdict .given .1)
+returns c =
+    let args = c .before .before .before .before .before .before .args in
+    let read-block = c .before .before .before .before .read-block in
+    let verdict = c .before .verdict in
+    promised (now (args .b)) (record { number = 0; outcome = Refused (verdict .given .0 .0) }) (rw (← read-block .ensures .0, verdict .given .1))
 
 returns-2 : tie.Need-returns-2
 unfolding blockAnswer
-returns-2 c = rw (← c .before .before .before .before .read-block .ensures .0, c .before .enum-told .given .1, c .value-sound .ensures)
+returns-2 c =
+    let args = c .before .before .before .before .before .before .args in
+    let read-block = c .before .before .before .before .read-block in
+    let enum-told = c .before .enum-told in
+    promised (now (args .b)) (record { number = read-block .result .case .number; outcome = c .value-well-formed .result })
+    (rw (← read-block .ensures .0, enum-told .given .1, c .value-well-formed .ensures))
 
 pub value-block-spec : {M : Type 1} → statement M
 value-block-spec =
     tie.close
     (tie.spec
-    read-block-requires
-    enum-known-verdict
-    enum-told
-    value-sound-requires
+    (λ c κs. search needs)
+    (λ c. search needs)
+    (λ c. search needs)
+    value-well-formed-requires
     returns
     returns-2)

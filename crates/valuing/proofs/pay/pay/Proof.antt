@@ -1,45 +1,27 @@
 -- `pay` meets its contract.
 -- Assumes nothing.
-use native.Mathlib.Omega.{arith}
-use borrow.Author.Tests.{eq-eqb, ne-eqb}
-use Rattle.sums.specs.Payment as payment
+use Rattle.cases.proofs.RowsOfKinds.{unit-small}
+use Rattle.sums.specs.Payment.{payment}
 use Rattle.valuing.proofs.Ranges.{head-in-range, underpin-small}
-use borrow.Author.Needs.{needs}
 use borrow.Author.Needs.{needs}
 use Rattle.valuing.proofs.pay.pay.Statement.{statement}
 use Rattle.valuing.proofs.pay.pay.Tie as tie
 
-whole-pounds-requires : tie.Need-whole-pounds-requires
-whole-pounds-requires c κs = omega (arith, head-in-range (c .before .before .args .c) (c .before .before .pre .0))
-
-add-result : tie.Need-add-result
-add-result c = omega (arith, c .whole-pounds .ensures, head-in-range (c .before .before .before .args .c) (c .before .before .before .pre .0))
-
-underpin-requires : tie.Need-underpin-requires
-underpin-requires c κs = search needs
-
-larger-requires : tie.Need-larger-requires
-larger-requires c κs = search needs
-
-add-result-2 : tie.Need-add-result-2
-add-result-2 c = omega (arith, c .larger .ensures, c .before .underpin .ensures, underpin-small (c .before .before .before .before .args .c) (c .before .before .before .before .pre .0), head-in-range (c .before .before .before .before .args .c) (c .before .before .before .before .pre .0))
+with-avc-requires : tie.Need-with-avc-requires
+with-avc-requires c κs =
+    let pre = c .before .before .pre in
+    let args = c .before .before .args in
+    let rules-of = c .before .rules-of in
+    let underpin = c .underpin in
+    (pre .1, rw (rules-of .ensures) (unit-small (args .c .kind)), rw (underpin .ensures) (underpin-small (args .c) (pre .0)), head-in-range (args .c) (pre .0) .avc)
 
 returns : tie.Need-returns
-unfolding payment.payment
-returns c = rw (eq-eqb _ _ (c .before .if1 .taken), c .whole-pounds .ensures .0)
-
-returns-2 : tie.Need-returns-2
-unfolding payment.payment
-returns-2 c = rw (ne-eqb _ _ (c .before .before .if1 .left), c .larger .ensures, c .before .underpin .ensures)
+unfolding payment
+returns c =
+    let rules-of = c .before .before .rules-of in
+    let underpin = c .before .underpin in
+    let with-avc = c .with-avc in
+    rw (with-avc .ensures, underpin .ensures, rules-of .ensures)
 
 pub pay-spec : {M : Type 1} → statement M
-pay-spec =
-    tie.close
-    (tie.spec
-    whole-pounds-requires
-    add-result
-    underpin-requires
-    larger-requires
-    add-result-2
-    returns
-    returns-2)
+pay-spec = tie.close (tie.spec (λ c κs. search needs) (λ c κs. search needs) with-avc-requires returns)

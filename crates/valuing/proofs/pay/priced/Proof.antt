@@ -14,54 +14,46 @@ use borrow.Author.Needs.{needs}
 use Rattle.valuing.proofs.pay.priced.Statement.{statement}
 use Rattle.valuing.proofs.pay.priced.Tie as tie
 
-add-take-off : tie.Need-add-take-off
-add-take-off c = search needs
-
-add-take-off-2 : tie.Need-add-take-off-2
-add-take-off-2 c = search needs
-
-take-off-requires : tie.Need-take-off-requires
-take-off-requires c κs = search needs
-
-enum-told : tie.Need-enum-told
-enum-told c = search needs
-
-enum-known-total : tie.Need-enum-known-total
-enum-known-total c = search needs
-
-nearest-requires : tie.Need-nearest-requires
-nearest-requires c κs = search needs
-
 pay-requires : tie.Need-pay-requires
 pay-requires c κs =
-    let t = c .before .before .before .before .before .before .before .args .t in
-    let n = c .before .before .total .given .0 .0 in
-    let e : Left n ≡ restOf (t .pension + t .lump + t .survivor) (t .deduction) = sym (c .before .before .total .given .1) ∙ c .before .before .before .before .take-off .ensures in
-    let b = c .before .before .before .before .before .before .before .pre .1 .bounded in
-    (c .before .before .before .before .before .before .before .pre .0, omega (arith, c .nearest .ensures, nearest-half 100 n (lit< tt), left-small (t .pension + t .lump + t .survivor) (t .deduction) n e))
-
-underpin-requires : tie.Need-underpin-requires
-underpin-requires c κs = search needs
+    let args = c .before .before .before .before .before .before .before .args in
+    let pre = c .before .before .before .before .before .before .before .pre in
+    let take-off = c .before .before .before .before .take-off in
+    let total = c .before .before .total in
+    let t = args .t in
+    let n = total .given .0 .0 in
+    let e : Left n ≡ restOf (t .pension + t .lump + t .survivor) (t .deduction) = sym (total .given .1) ∙ take-off .ensures in
+    let b = pre .1 .bounded in
+    (pre .0, omega (arith, c .nearest .ensures, nearest-half 100 n (lit< tt), left-small (t .pension + t .lump + t .survivor) (t .deduction) n e))
 
 returns : tie.Need-returns
-returns c = settled (c .before .before .before .before .before .args .c) (c .before .before .before .before .before .args .t) (c .before .before .before .before .before .pre .1) Below (sym (c .enum-told .given .1) ∙ c .before .before .take-off .ensures)
+returns c =
+    let args = c .before .before .before .before .before .args in
+    let pre = c .before .before .before .before .before .pre in
+    let take-off = c .before .before .take-off in
+    settled (args .c) (args .t) (pre .1) Below (sym (c .enum-told .given .1) ∙ take-off .ensures)
 
 returns-2 : tie.Need-returns-2
 returns-2 c =
-    rw (c .before .pay .ensures, c .before .before .nearest .ensures, c .underpin .ensures)
-    (settled (c .before .before .before .before .before .before .before .before .before .args .c) (c .before .before .before .before .before .before .before .before .before .args .t) (c .before .before .before .before .before .before .before .before .before .pre .1) (Left (c .before .before .before .before .total .given .0 .0)) (sym (c .before .before .before .before .total .given .1) ∙ c .before .before .before .before .before .before .take-off .ensures))
+    let args = c .before .before .before .before .before .before .before .before .before .args in
+    let pre = c .before .before .before .before .before .before .before .before .before .pre in
+    let take-off = c .before .before .before .before .before .before .take-off in
+    let total = c .before .before .before .before .total in
+    let nearest = c .before .before .nearest in
+    rw (c .before .pay .ensures, nearest .ensures, c .underpin .ensures)
+    (settled (args .c) (args .t) (pre .1) (Left (total .given .0 .0)) (sym (total .given .1) ∙ take-off .ensures))
 
 pub priced-spec : {M : Type 1} → statement M
 priced-spec =
     tie.close
     (tie.spec
-    add-take-off
-    add-take-off-2
-    take-off-requires
-    enum-told
-    enum-known-total
-    nearest-requires
+    (λ c. search needs)
+    (λ c. search needs)
+    (λ c κs. search needs)
+    (λ c. search needs)
+    (λ c. search needs)
+    (λ c κs. search needs)
     pay-requires
-    underpin-requires
+    (λ c κs. search needs)
     returns
     returns-2)

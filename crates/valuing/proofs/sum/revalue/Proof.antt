@@ -10,11 +10,8 @@ use Rattle.valuing.proofs.sum.revalue.Tie as tie
 mul-nearest : tie.Need-mul-nearest
 mul-nearest c = omega (arith, mul-le-mul (c .pre .0) (c .pre .1))
 
-nearest-requires : tie.Need-nearest-requires
-nearest-requires c κs = search needs
-
 returns : tie.Need-returns
 returns c = (c .nearest .ensures, rw (c .nearest .ensures) (revalued-small (c .before .args .v) (c .before .args .x) (c .before .pre .1) (c .before .pre .0)))
 
 pub revalue-spec : {M : Type 1} → statement M
-revalue-spec = tie.close (tie.spec mul-nearest nearest-requires returns)
+revalue-spec = tie.close (tie.spec mul-nearest (λ c κs. search needs) returns)

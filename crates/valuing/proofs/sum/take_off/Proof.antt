@@ -11,12 +11,6 @@ use Rattle.valuing.proofs.Signed.{sub-fits, sub-test, sub-pos}
 use Rattle.valuing.proofs.sum.take_off.Statement.{statement}
 use Rattle.valuing.proofs.sum.take_off.Tie as tie
 
-cast-total : tie.Need-cast-total
-cast-total c = search needs
-
-cast-total-2 : tie.Need-cast-total-2
-cast-total-2 c = search needs
-
 sub-total : tie.Need-sub-total
 sub-total c = sub-fits (c .args .credit) (c .args .deduction) (c .pre .0) (c .pre .1)
 
@@ -33,4 +27,4 @@ returns-2 : tie.Need-returns-2
 returns-2 c = rw (left c, sym (sub-test (c .before .args .credit) (c .before .args .deduction) (c .before .pre .0) (c .before .pre .1)) ∙ c .if1 .left)
 
 pub take-off-spec : {M : Type 1} → statement M
-take-off-spec = tie.close (tie.spec cast-total cast-total-2 sub-total returns cast-t7 returns-2)
+take-off-spec = tie.close (tie.spec (λ c. search needs) (λ c. search needs) sub-total returns cast-t7 returns-2)

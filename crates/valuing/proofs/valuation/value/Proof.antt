@@ -1,42 +1,49 @@
 -- `value` meets its contract.
 -- Assumes nothing.
 use mathlib.Core.Path.{_≡_, sym, ap, _∙_, subst}
-use Rattle.valuing.specs.declared.Outcome.the-variants.{Refused}
+use Rattle.refusals.proofs.Order.{first-none}
+use mathlib.Core.Bool.{false}
+use Rattle.cases.specs.Form.{formTests}
+use Rattle.cases.specs.declared.Case.{Case}
 use Rattle.valuing.specs.Answer.{answerOf, outcomeNumbers}
 use Rattle.valuing.specs.Compare.{Demand3}
+use Rattle.valuing.specs.declared.Outcome.{Outcome}
 use Rattle.valuing.proofs.Stages.{by-form}
 use Rattle.valuing.proofs.Comparison.{demand3}
 use borrow.Author.Needs.{needs}
 use Rattle.valuing.proofs.valuation.value.Statement.{statement}
 use Rattle.valuing.proofs.valuation.value.Tie as tie
 
-form-verdict-requires : tie.Need-form-verdict-requires
-form-verdict-requires c κs = search needs
+value-well-formed-requires : tie.Need-value-well-formed-requires
+value-well-formed-requires c κs =
+    let args = c .before .before .before .args in
+    let form-verdict = c .before .before .form-verdict in
+    let enum-told = c .enum-told in
+    first-none (formTests false (args .c)) (sym (form-verdict .ensures .0) ∙ enum-told .given .1)
 
-enum-known-why : tie.Need-enum-known-why
-enum-known-why c = search needs
-
-enum-told : tie.Need-enum-told
-enum-told c = search needs
-
-value-sound-requires : tie.Need-value-sound-requires
-value-sound-requires c κs = sym (c .before .before .form-verdict .ensures .0) ∙ c .enum-told .given .1
+-- the answer gives its numbers and demand 3
+promised : (k : Case) (r : Outcome) → r ≡ answerOf k → (r ≡ answerOf k) × ((outcomeNumbers r ≡ outcomeNumbers (answerOf k)) × Demand3 k r)
+promised k r e = (e, (ap outcomeNumbers e, subst (Demand3 k) (sym e) (demand3 k)))
 
 returns : tie.Need-returns
 returns c =
-    let e : Refused (c .before .why .given .0 .0) ≡ answerOf (c .before .before .before .before .args .c) = by-form (c .before .before .before .before .args .c) (c .before .why .given .0 .0) (sym (c .before .before .before .form-verdict .ensures .0) ∙ c .before .why .given .1) in
-    (e, (ap outcomeNumbers e, subst (Demand3 (c .before .before .before .before .args .c)) (sym e) (demand3 (c .before .before .before .before .args .c))))
+    let args = c .before .before .before .before .args in
+    let form-verdict = c .before .before .before .form-verdict in
+    let why = c .before .why in
+    promised (args .c) _ (by-form (args .c) (why .given .0 .0) (sym (form-verdict .ensures .0) ∙ why .given .1))
 
 returns-2 : tie.Need-returns-2
-returns-2 c = (c .value-sound .ensures, (ap outcomeNumbers (c .value-sound .ensures), subst (Demand3 (c .before .before .before .before .args .c)) (sym (c .value-sound .ensures)) (demand3 (c .before .before .before .before .args .c))))
+returns-2 c =
+    let args = c .before .before .before .before .args in
+    promised (args .c) _ (c .value-well-formed .ensures)
 
 pub value-spec : {M : Type 1} → statement M
 value-spec =
     tie.close
     (tie.spec
-    form-verdict-requires
-    enum-known-why
-    enum-told
-    value-sound-requires
+    (λ c κs. search needs)
+    (λ c. search needs)
+    (λ c. search needs)
+    value-well-formed-requires
     returns
     returns-2)

@@ -1,0 +1,5 @@
+pub mod Places
+pub mod Groups
+pub mod Order
+pub mod Columns
+pub mod Files

@@ -1,0 +1,24 @@
+-- `block_checksum` meets its contract.
+-- Assumes nothing.
+use denote.Ref.{now}
+use native.Mathlib.Omega.{arith}
+use lib.ListN.{length}
+use borrow.Author.Tests.{lt-ltb, le-ltb}
+use Rattle.blocks.specs.Block as block
+use borrow.Author.Needs.{needs}
+use Rattle.blocks.proofs.check.block_checksum.Statement.{statement}
+use Rattle.blocks.proofs.check.block_checksum.Tie as tie
+
+checksum-requires : tie.Need-checksum-requires
+checksum-requires c κs = search needs
+
+returns : tie.Need-returns
+unfolding block.checkOf
+returns c = rw (lt-ltb (length (now (c .before .before .args .b))) 508 (omega arith))
+
+returns-2 : tie.Need-returns-2
+unfolding block.checkOf
+returns-2 c = rw (le-ltb (length (now (c .before .before .before .args .b))) 508 (omega arith)) (c .checksum .ensures)
+
+pub block-checksum-spec : {M : Type 1} → statement M
+block-checksum-spec = tie.close (tie.spec checksum-requires returns returns-2)

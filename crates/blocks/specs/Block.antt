@@ -1,0 +1,52 @@
+-- The case that a block holds, its checksum, and the bytes that no field names.
+-- Assumes nothing.
+use Prim.Native.Nat.{ℕ, zero, suc, _+_, _-_, _*_, _/_}
+use mathlib.Core.Bool.{Bool, cond, not}
+use mathlib.Core.List.{List, [], _∷_}
+use lib.Dec.{eqb, ltb}
+use lib.ListN.{length, getD}
+use Rattle.numbers.specs.Below.{sumBelow, anyBelow}
+use Rattle.numbers.specs.Lists.{any}
+use Rattle.buffers.specs.Bytes.{numberAt}
+use Rattle.calendar.specs.declared.Date.{Date}
+use Rattle.cases.specs.Layout.{pension, amountAt, Field, place, layout, gaps}
+use Rattle.cases.specs.Entries.{lineWith, caseBy}
+use Rattle.cases.specs.declared.Line.{Line}
+use Rattle.cases.specs.declared.Case.{Case}
+
+-- the number that a field of a block holds
+abbrev pub fieldOf : List ℕ → Field → ℕ
+fieldOf s f = numberAt (f .width) s (f .offset)
+
+unfoldable pub caseOf : List ℕ → Case
+caseOf s = caseBy (λ e. fieldOf s (place e))
+
+-- the case of zeros, which stands beside a refusal
+unfoldable pub zeroCase : Case
+zeroCase = caseBy (λ e. 0)
+
+-- the checksum: each of the first 508 bytes times its position, counted from 1, summed
+unfoldable pub checksum : List ℕ → ℕ
+checksum s = sumBelow 508 (λ p. (p + 1) * getD s p 0)
+
+-- the same of any bytes: 0 where there are fewer than 508
+unfoldable pub checkOf : List ℕ → ℕ
+checkOf s = cond (ltb (length s) 508) 0 (checksum s)
+
+-- whether a byte of a field's place is not zero
+unfoldable pub nonzero : List ℕ → Field → Bool
+nonzero s f = anyBelow (f .width) (λ i. not (eqb (getD s (f .offset + i) 0) 0))
+
+-- whether a byte that no field names is not zero
+unfoldable pub unnamedFault : List ℕ → Bool
+unnamedFault s = any (nonzero s) (gaps 0 512 layout)
+
+-- No promise of a public function speaks of the next two: the code reads a group of amounts at a time.
+-- n amounts that stand one after the other from position p on
+unfoldable pub amountsFrom : ℕ → List ℕ → ℕ → List ℕ
+amountsFrom zero s p = []
+amountsFrom (suc n) s p = numberAt 8 s p ∷ amountsFrom n s (p + 8)
+
+-- the line of a date and of amounts in block order
+abbrev pub lineInOrder : Date → List ℕ → Line
+lineInOrder d n = lineWith d (λ a. getD n ((amountAt 0 a - amountAt 0 pension) / 8) 0)

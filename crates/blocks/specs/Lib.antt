@@ -1,0 +1,4 @@
+pub mod Block
+pub mod Reading
+pub mod Columns
+pub mod Files

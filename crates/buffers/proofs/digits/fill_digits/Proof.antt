@@ -1,0 +1,44 @@
+-- `fill_digits` meets its contract: with i digits left, writing them over what is there gives the whole.
+-- Assumes nothing.
+use Prim.Native.Nat.{ℕ, _≤_}
+use mathlib.Core.Path.{_≡_, refl, sym, ap, _∙_}
+use native.Mathlib.Omega.{arith}
+use lib.ListN.{length, length-set}
+use Rattle.buffers.specs.Text.{putAt}
+use Rattle.buffers.proofs.Writing.{put-empty}
+use Rattle.buffers.specs.Decimal.{lastDigits}
+use Rattle.buffers.proofs.Decimal.{put-digit}
+use borrow.Author.Needs.{needs}
+use Rattle.buffers.proofs.digits.fill_digits.Statement.{statement}
+use Rattle.buffers.proofs.digits.fill_digits.Tie as tie
+
+abbrev Inv-loop : tie.InvT-loop
+Inv-loop out₀ at n k i₀ rest₀ out i rest =
+    (i ≤ k) × (length out ≡ length out₀) × (putAt out at (lastDigits i rest) ≡ putAt out₀ at (lastDigits k n))
+
+abbrev μ-loop : tie.MeasureT-loop
+μ-loop out₀ at n k i₀ rest₀ out i rest = i
+
+loop-holds : tie.Need-loop-holds Inv-loop μ-loop
+loop-holds c = (search needs, refl, refl)
+
+loop-again : tie.Need-loop-again Inv-loop μ-loop
+loop-again c =
+    let l = c .before .loop in
+    (search needs, simp length-set (omega arith), put-digit (l .out) (c .before .before .args .at) (l .i) (l .rest) (search needs) (search needs) ∙ l .inv .2)
+
+returns : tie.Need-returns Inv-loop μ-loop
+unfolding lastDigits
+returns c =
+    let l = c .before .loop in
+    let a = c .before .before .args in
+    let z : l .i ≡ 0 = omega arith in
+    sym (put-empty (l .out) (a .at) (omega arith)) ∙ ap (λ (k : ℕ). putAt (l .out) (a .at) (lastDigits k (l .rest))) (sym z) ∙ l .inv .2
+
+pub fill-digits-spec : {M : Type 1} → statement M
+fill-digits-spec =
+    tie.close
+    (tie.spec
+    Inv-loop μ-loop loop-holds
+    (λ c. search needs) (λ c. search needs) (λ c. search needs) (λ c. search needs) (λ c. search needs) (λ c. search needs)
+    loop-again (λ c. search needs) returns)

@@ -1,0 +1,14 @@
+-- The flags of a case, a byte: 1 is a transfer in, 2 a guaranteed minimum pension (GMP). No other bit is used.
+-- Assumes nothing.
+use Prim.Native.Nat.{ℕ, _%_, _/_}
+use mathlib.Core.Bool.{Bool, not}
+use lib.Dec.{eqb}
+
+abbrev pub transferFlag : ℕ → Bool
+transferFlag flags = eqb (flags % 2) 1
+
+abbrev pub gmpFlag : ℕ → Bool
+gmpFlag flags = eqb (flags / 2 % 2) 1
+
+abbrev pub unusedFlag : ℕ → Bool
+unusedFlag flags = not (eqb (flags / 4) 0)

@@ -1,0 +1,52 @@
+-- What sets the kinds of case apart: one row to a kind, which the refusals, the choice of factors and step 5 of the sum go by.
+-- Assumes nothing.
+use Prim.Native.Nat.{ℕ}
+use mathlib.Core.Bool.{true, false, cond}
+use lib.Dec.{eqb}
+use Rattle.cases.specs.declared.Rules.{Rules}
+use Rattle.cases.specs.declared.Table.the-variants.{Section1995, Scheme2015, NoTable}
+
+-- kind 1: the 1995 section with pension age 60, paid in whole pounds
+abbrev pub section1995 : Rules
+section1995 =
+    record {
+      lines = 1;
+      dated = false;
+      transfers = false;
+      lump = true;
+      modification = true;
+      «pension_age» = 60;
+      table = Section1995;
+      unit = 100;
+    }
+
+-- kind 2: the 2015 scheme, whose lines are dated, paid to the penny
+abbrev pub scheme2015 : Rules
+scheme2015 =
+    record {
+      lines = 4;
+      dated = true;
+      transfers = true;
+      lump = false;
+      modification = false;
+      «pension_age» = 0;
+      table = Scheme2015;
+      unit = 1;
+    }
+
+-- no other kind is valued
+abbrev pub noKind : Rules
+noKind =
+    record {
+      lines = 0;
+      dated = false;
+      transfers = false;
+      lump = false;
+      modification = false;
+      «pension_age» = 0;
+      table = NoTable;
+      unit = 0;
+    }
+
+unfoldable pub rulesOf : ℕ → Rules
+rulesOf kind = cond (eqb kind 1) section1995 (cond (eqb kind 2) scheme2015 noKind)

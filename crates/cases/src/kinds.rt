@@ -1,0 +1,42 @@
+// What sets the kinds of case apart: one row to a kind.
+ghost use mathlib.Core.Path.{_≡_};
+ghost use Rattle.cases.specs.Kinds.{rulesOf};
+use crate::Rules;
+use crate::Table;
+
+pub fn rules_of(kind: u16) -> Rules
+    ensures { λ r. ⌜ r ≡ rulesOf kind ⌝ }
+{
+    match kind {
+        1 => Rules {
+            lines: 1,
+            dated: false,
+            transfers: false,
+            lump: true,
+            modification: true,
+            pension_age: 60,
+            table: Table::Section1995,
+            unit: 100,
+        },
+        2 => Rules {
+            lines: 4,
+            dated: true,
+            transfers: true,
+            lump: false,
+            modification: false,
+            pension_age: 0,
+            table: Table::Scheme2015,
+            unit: 1,
+        },
+        _ => Rules {
+            lines: 0,
+            dated: false,
+            transfers: false,
+            lump: false,
+            modification: false,
+            pension_age: 0,
+            table: Table::NoTable,
+            unit: 0,
+        },
+    }
+}

@@ -1,0 +1,55 @@
+-- Whether a transfer is open to the member: the tests of dates and of entitlement, in their order.
+-- Assumes nothing.
+use Prim.Native.Nat.{ℕ}
+use mathlib.Core.Bool.{Bool, cond, not, _&&_, _||_}
+use mathlib.Core.List.{List, [], _∷_}
+use lib.Dec.{eqb, leb, ltb}
+use Rattle.calendar.specs.Dates.{before}
+use Rattle.calendar.specs.Moving.{movedOn}
+use Rattle.calendar.specs.declared.Date.{Date}
+use Rattle.refusals.specs.Tests.{Test, _gives_}
+use Rattle.refusals.specs.declared.Refusal.the-variants.{Dates, Status, Receiver, Service, Refer, Age}
+use Rattle.cases.specs.Entries.{line, anyLine, ageOf}
+use Rattle.cases.specs.Flags.{gmpFlag}
+use Rattle.cases.specs.Kinds.{rulesOf}
+use Rattle.cases.specs.declared.Line.{Line}
+use Rattle.cases.specs.declared.Case.{Case}
+
+-- a line after the first, within the count, that is not dated before the first
+abbrev pub misplaced : Case → ℕ → Line → Bool
+misplaced c i l = leb 1 i && ltb i (c .count) && not (before (l .date) (line c 0 .date))
+
+-- 6 dates: the member left before or on the day of birth, or after the guarantee date; where lines are dated, the first is dated
+-- before the 65th birthday, or another not before the first
+unfoldable pub datesFault : Case → Bool
+datesFault c =
+    not (before (c .birth) (c .leaving)) ||
+    before (c .guarantee) (c .leaving) ||
+    (rulesOf (c .kind) .dated && (before (line c 0 .date) (movedOn 65 (c .birth)) || anyLine (misplaced c) c))
+
+-- 10 refer: a guaranteed minimum pension, and state pension age reached before 6 April 2016
+abbrev pub newStatePension : Date
+newStatePension = record { year = 2016; month = 4; day = 6 }
+
+unfoldable pub referFault : Case → Bool
+referFault c = gmpFlag (c .flags) && before (c .«state_pension») newStatePension
+
+-- a line within the count that is dated on or before the guarantee date
+abbrev pub reached : Case → ℕ → Line → Bool
+reached c i l = ltb i (c .count) && not (before (c .guarantee) (l .date))
+
+-- 11 age: where lines are dated, one of them has been reached; else the pension age has
+unfoldable pub ageFault : Case → Bool
+ageFault c = cond (rulesOf (c .kind) .dated) (anyLine (reached c) c) (leb (rulesOf (c .kind) .«pension_age») (ageOf c))
+
+abbrev pub datesTests : Case → List Test
+datesTests c = (datesFault c gives Dates) ∷ []
+
+-- 7 status: not deferred; 8 receiver: not a defined benefit scheme; 9 service: under 3 months
+abbrev pub entitlementTests : Case → List Test
+entitlementTests c =
+    (not (eqb (c .status) 1) gives Status) ∷
+    (not (eqb (c .receiver) 1) gives Receiver) ∷
+    (ltb (c .service) 3 gives Service) ∷
+    (referFault c gives Refer) ∷
+    (ageFault c gives Age) ∷ []

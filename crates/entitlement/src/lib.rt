@@ -1,0 +1,6 @@
+// Whether a transfer is open to the member: refusals 6 to 11, which look at dates and codes and at no amount.
+mod dates;
+mod stages;
+
+pub use stages::dates_verdict;
+pub use stages::entitlement_verdict;

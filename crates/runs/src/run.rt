@@ -1,0 +1,83 @@
+// The steps of a run. Between them the caller writes what a step put into the buffer, and reads what it wants next.
+ghost use mathlib.Core.Path.{_≡_};
+ghost use mathlib.Core.List.{[], _++_};
+ghost use Prim.Native.Nat.{_+_, _≤_, min};
+ghost use lib.ListN.{length, take, drop};
+ghost use Rattle.report.specs.Lines.{header};
+ghost use Rattle.runs.specs.Run.{left, wantedAfter};
+ghost use Rattle.runs.specs.Steps.{kept, wantedUnless, startOf, stepOf, stepText, Reported, Adds};
+use crate::Counts;
+use crate::Progress;
+use crate::chunk::least;
+use crate::chunk::put_lines;
+use crate::line::end_of;
+use crate::line::put_end;
+use report::form_header;
+
+// Room for the lines of a chunk and the end line, at 256 bytes a line.
+type Output = [u8; 33024];
+
+// 128 blocks.
+type Input = [u8; 65536];
+
+fn wanted_after(counts: Counts) -> usize
+    ensures { λ r. ⌜ r ≡ wantedAfter counts ⌝ }
+{
+    if counts.paid <= counts.blocks {
+        least(
+            65536,
+            (1000000 - least(counts.blocks as usize, 1000000)) * 512,
+        )
+    } else {
+        0
+    }
+}
+
+fn keep(failed: bool, n: usize) -> usize
+    ensures { λ r. ⌜ (r ≡ kept failed n) × (r ≤ n) ⌝ }
+{
+    if failed { n - n % 512 } else { n }
+}
+
+fn wanted_unless(ended: bool, after: Counts) -> usize
+    ensures { λ r. ⌜ r ≡ wantedUnless ended after ⌝ }
+{
+    if ended { 0 } else { wanted_after(after) }
+}
+
+// Starts a run: the header is to be written, and the first chunk to be read.
+pub fn start(out: &mut Output) -> Progress
+    ensures answer { λ r. ⌜ r ≡ startOf ⌝ }
+    ensures bytes { λ r. ⌜ now (out .exit) ≡ header ++ drop (r .length) (now (out .entry)) ⌝ }
+    ensures file { λ r. ⌜ Reported [] (r .counts) (take (r .length) (now (out .exit))) ⌝ }
+{
+    let formed = form_header(out);
+    Progress {
+        counts: Counts { blocks: 0, paid: 0 },
+        wanted: 65536,
+        length: end_of(0, formed),
+    }
+}
+
+// Goes on with a run after a read of what it wanted, which put got bytes at the start of input, and may have failed then.
+// Where fewer bytes came than were wanted, the file has ended.
+pub fn step(counts: Counts, input: &Input, got: usize, failed: bool, out: &mut Output) -> Progress
+    ensures answer { λ r. ⌜ r ≡ stepOf counts (now (input .entry)) got failed ⌝ }
+    ensures bytes { λ r. ⌜ now (out .exit) ≡ stepText counts (now (input .entry)) got failed ++ drop (r .length) (now (out .entry)) ⌝ }
+    ensures file { λ r. ⌜ Adds counts (now (input .entry)) got failed r (take (r .length) (now (out .exit))) ⌝ }
+    ensures room { λ r. ⌜ (r .wanted ≤ 65536) × (r .length ≤ 33024) ⌝ }
+    ensures less { λ r. ⌜ left (r .counts) + min 1 (r .wanted) ≤ left counts ⌝ }
+{
+    let want = wanted_after(counts);
+    let n = keep(failed, least(got, want));
+    let read = &input[..];
+    let lines = put_lines(&read[0..n], counts, out);
+    let after = lines.counts;
+    let wanted = wanted_unless(failed | (got < want), after);
+    let length = put_end(out, lines.length, after, !failed & (wanted == 0));
+    Progress {
+        counts: after,
+        wanted: wanted,
+        length: length,
+    }
+}
