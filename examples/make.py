@@ -1,5 +1,5 @@
 #!/usr/bin/env python3
-"""Writes the sample case file to standard output: 001's Example A, 003's Example B and a block of zeros."""
+"""Writes the sample case file to standard output: Example A of 001, Example B of 003, and 512 zero bytes."""
 import sys
 
 

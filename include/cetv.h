@@ -2,8 +2,9 @@
  * scheme: the 1995 section with pension age 60 (kind 1) and the 2015 scheme
  * (kind 2). Link with libcetv.a; nothing else is needed.
  *
- * A case is a block of 512 bytes. Numbers are unsigned, low byte first; money
- * is in pence; a date is a 16-bit year, a byte month, a byte day.
+ * A case is a block of 512 bytes. A number is never negative and has its low
+ * byte first; amounts are whole pence. A date takes four bytes: two for the
+ * year, one for the month, one for the day.
  *
  *   offset  bytes  field
  *        0      2  kind: 1 or 2
@@ -27,8 +28,8 @@
  *                    24 survivor's pension, 32 dependant's additional pension,
  *                    40 lump sum, 48 insurance modification, 56 pension debit,
  *                    64 lump sum debit, 8 bytes each but the date
- *      508      4  check: the sum over bytes 0 to 507 of (position + 1) times
- *                  the byte
+ *      508      4  check: each of the 508 bytes before it, times its position
+ *                  counted from 1, summed
  *
  * Amounts go to 1,000,000,000 pence. Every byte that no field names is zero.
  */
@@ -52,7 +53,7 @@ extern "C" {
 enum cetv_refusal {
     CETV_LENGTH = 1,    /* length: the block is not 512 bytes */
     CETV_CHECK = 2,     /* check: the check differs */
-    CETV_KIND = 3,      /* kind: not 1 or 2, or a count its kind doesn't allow */
+    CETV_KIND = 3,      /* kind: not listed, or too few or too many lines for it */
     CETV_RESERVED = 4,  /* reserved: something that must be zero is not */
     CETV_RANGE = 5,     /* range: a number, code or date out of its range */
     CETV_DATES = 6,     /* dates: dates in an order that cannot be */

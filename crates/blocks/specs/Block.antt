@@ -30,8 +30,8 @@ unfoldable pub checksum : List ℕ → ℕ
 checksum s = sumBelow 508 (λ p. (p + 1) * getD s p 0)
 
 -- the same of any bytes: 0 where there are fewer than 508
-unfoldable pub checkOf : List ℕ → ℕ
-checkOf s = cond (ltb (length s) 508) 0 (checksum s)
+unfoldable pub checksumOrZero : List ℕ → ℕ
+checksumOrZero s = cond (ltb (length s) 508) 0 (checksum s)
 
 -- whether a byte of a field's place is not zero
 unfoldable pub nonzero : List ℕ → Field → Bool

@@ -1,4 +1,4 @@
--- What the code carries on its way to the check. No promise of the crate's public functions speaks of it.
+-- What the code carries on its way to the check. No promise of a public function speaks of it.
 -- Assumes nothing.
 use Prim.Native.Nat.{ℕ, _+_, _*_, _≤_, _<_}
 use mathlib.Core.List.{List}

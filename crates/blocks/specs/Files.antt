@@ -4,7 +4,7 @@ use Prim.Native.Nat.{ℕ, zero, suc, _+_, _/_}
 use mathlib.Core.List.{List, [], _∷_}
 use lib.ListN.{length, take, drop}
 
--- how many blocks so many bytes are: a last part shorter than 512 bytes counts as a block
+-- how many blocks so many bytes are: a last one cut short counts too
 abbrev pub blockCount : ℕ → ℕ
 blockCount n = (n + 511) / 512
 

@@ -112,7 +112,7 @@ pub(crate) fn checksum(b: &[u8]) -> u32
 
 // The checksum that a block of these bytes must hold; 0 where there are fewer than 508.
 pub fn block_checksum(b: &[u8]) -> u32
-    ensures { λ r. ⌜ r ≡ block.checkOf (now (b .entry)) ⌝ }
+    ensures { λ r. ⌜ r ≡ block.checksumOrZero (now (b .entry)) ⌝ }
 {
     if b.len() < 508 { 0 } else { checksum(b) }
 }

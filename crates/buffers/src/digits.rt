@@ -34,8 +34,8 @@ pub fn put_digits(out: &mut [u8], at: usize, n: u64, k: usize) -> usize
     at + k
 }
 
-// How many decimal digits n has: comparing takes less time than dividing. Of a number that goes through the loop the next power
-// of ten fits.
+// How many decimal digits n has: comparing takes less time than dividing. Where the loop is reached, the next power of ten fits in
+// 64 bits.
 fn count_digits(n: u64) -> usize
     ensures { λ r. ⌜ r ≡ length (decimal n) ⌝ }
 {

@@ -7,7 +7,6 @@ pub use day::is_real;
 pub use day::is_zero;
 pub use moving::age;
 pub use moving::before_birthday;
-pub use moving::in_year;
 pub use moving::years_ahead;
 
 pub struct Date {

@@ -8,7 +8,7 @@ use crate::day::before;
 use crate::day::is_leap;
 
 // The date in another year: month and day stay, but 29 February is 1 March in a common year.
-pub fn in_year(year: u16, d: Date) -> Date
+fn in_year(year: u16, d: Date) -> Date
     ensures { λ r. ⌜ r ≡ moving.inYear year d ⌝ }
 {
     if (d.month == 2) & (d.day == 29) & !is_leap(year) {

@@ -2,20 +2,19 @@
 -- Assumes nothing.
 use Prim.Native.Nat.{ℕ, _≤_, _<_}
 use mathlib.Core.Bool.{false, not, _&&_, and-eq-true-iff}
-use mathlib.Core.List.{[], _∷_}
 use mathlib.Core.Path.{_≡_}
 use native.Mathlib.Omega.{arith}
 use lib.Dec.{eqb, leb}
 use borrow.Author.Tests.{leb-true, le-leb, eqb-true, not-false}
 use Rattle.numbers.specs.Lists.{Each}
-use Rattle.numbers.proofs.Tests.{and-right-false, or-false, none-holds}
+use Rattle.numbers.proofs.Tests.{and-right-false, or-false}
 use Rattle.numbers.proofs.Below.{any-false}
 use Rattle.numbers.proofs.Lists.{each-not}
 use Rattle.calendar.specs.Dates.{isZero}
-use Rattle.cases.specs.Layout.{additional, dependant, lump, modification, schemePaysLump, amounts}
+use Rattle.cases.specs.Layout.{amounts}
 use Rattle.cases.specs.Entries.{line, anyLine, amountIn}
 use Rattle.cases.specs.Kinds.{rulesOf}
-use Rattle.cases.specs.Form.{kindFault, filled, anyFilled, lineFilled, lineReservedFault, headReservedFault, reservedFault}
+use Rattle.cases.specs.Form.{kindFault, filled, anyFilled, lineFilled, reservedFilled, lineReservedFault, headReservedFault, reservedFault}
 use Rattle.cases.proofs.RowsOfKinds.{four-lines}
 use Rattle.cases.specs.declared.Line.{Line}
 use Rattle.cases.specs.declared.Case.{Case}
@@ -33,8 +32,7 @@ zero-past c e i h p =
     let r = rulesOf (c .kind) in
     let lines = or-false (headReservedFault c) (anyLine (lineReservedFault r (c .count)) c) e .1 in
     let tests =
-    none-holds (leb (c .count) i && lineFilled l)
-    ((not (r .dated) && not (isZero (l .date))) ∷ (not (r .lump) && anyFilled (lump ∷ schemePaysLump ∷ []) l) ∷ (not (r .modification) && anyFilled (modification ∷ []) l) ∷ (leb 1 i && anyFilled (additional ∷ dependant ∷ []) l) ∷ [])
+    or-false (leb (c .count) i && lineFilled l) (reservedFilled r i l)
     (any-false 4 (λ j. lineReservedFault r (c .count) j (line c j)) lines i h) in
     and-right-false (leb (c .count) i) (lineFilled l) (le-leb (c .count) i p) (tests .0)
 

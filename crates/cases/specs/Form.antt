@@ -24,7 +24,7 @@ statusListed x = leb 1 x && leb x 4
 abbrev pub receiverListed : ℕ → Bool
 receiverListed x = leb 1 x && leb x 3
 
--- 3: the kind is none, or does not allow the count of lines
+-- 3: the kind is not listed, or does not allow the count of lines
 unfoldable pub kindFault : ℕ → ℕ → Bool
 kindFault kind count = not (leb 1 count && leb count (rulesOf kind .lines))
 
@@ -39,15 +39,18 @@ anyFilled some l = any (λ a. filled (amountIn a l)) some
 unfoldable pub lineFilled : Line → Bool
 lineFilled l = not (isZero (l .date)) || anyFilled amounts l
 
--- what must be zero in line i: all of it past the count; the date where the kind's lines are not dated; the lump sum and its debit,
--- and the modification, where the kind has none; both additional amounts in every line but the first
-unfoldable pub lineReservedFault : Rules → ℕ → ℕ → Line → Bool
-lineReservedFault rules count i l =
-    (leb count i && lineFilled l) ||
+-- what must be zero in line i by its kind and place: the date where the kind's lines are not dated; the lump sum and its debit, and
+-- the modification, where the kind has none; both additional amounts in every line but the first
+unfoldable pub reservedFilled : Rules → ℕ → Line → Bool
+reservedFilled rules i l =
     (not (rules .dated) && not (isZero (l .date))) ||
     (not (rules .lump) && anyFilled (lump ∷ schemePaysLump ∷ []) l) ||
     (not (rules .modification) && anyFilled (modification ∷ []) l) ||
     (leb 1 i && anyFilled (additional ∷ dependant ∷ []) l)
+
+-- that, and past the count all of the line
+unfoldable pub lineReservedFault : Rules → ℕ → ℕ → Line → Bool
+lineReservedFault rules count i l = (leb count i && lineFilled l) || reservedFilled rules i l
 
 -- what must be zero before the lines: flag bits without a meaning; a state pension date without GMP; a transfer-in payment without
 -- the transfer flag; where the kind has no transfers, that flag and own contributions

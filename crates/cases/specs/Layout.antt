@@ -10,6 +10,7 @@ pub data Head : Type 0 where
   kind number status receiver flags count service : Head
   birth leaving guarantee statePension revaluation : Head
   avc transfer contributions : Head
+  deriving Discrete as head-discrete
 
 -- the amounts of a line; those of Scheme Pays are debits
 pub data Amount : Type 0 where
@@ -71,7 +72,7 @@ place (amount i a) = amountAt i a wide 8
 abbrev pub check : Field
 check = 508 wide 4
 
--- the same in block order
+-- the fields before the lines, and the amounts of a line, in block order; the laws head-listed and amount-listed say that none is left out
 abbrev pub heads : List Head
 heads =
     kind ∷ number ∷ status ∷ receiver ∷ flags ∷ count ∷ service ∷

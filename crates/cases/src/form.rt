@@ -13,7 +13,7 @@ use refusals::Refusal;
 use refusals::Verdict;
 use refusals::refuse_if;
 
-// Whether the kind is none, or does not allow the count of lines.
+// Whether the kind is not listed, or does not allow the count of lines.
 fn kind_fault(kind: u16, count: u8) -> bool
     ensures { λ r. ⌜ r ≡ form.kindFault kind count ⌝ }
 {

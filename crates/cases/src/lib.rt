@@ -53,7 +53,7 @@ pub enum Table {
 
 // What sets a kind of case apart.
 pub struct Rules {
-    // A case has one line to so many.
+    // The most lines that a case may have; it has at least one.
     pub lines: u8,
     // Whether each line is dated at its own pension age.
     pub dated: bool,
@@ -65,6 +65,6 @@ pub struct Rules {
     // The pension age where the lines are not dated.
     pub pension_age: u16,
     pub table: Table,
-    // What is paid of the gross value is a whole number of so many pence.
+    // The gross value is rounded to a multiple of this many pence.
     pub unit: u64,
 }

@@ -5,7 +5,7 @@ ghost use Rattle.numbers.specs.Lists.{any};
 ghost use Rattle.cases.specs.Layout.{amounts};
 ghost use Rattle.cases.specs.Entries.{amountIn, anyLine};
 ghost use Rattle.cases.specs.Kinds.{rulesOf};
-ghost use Rattle.cases.specs.Form.{filled, tooLarge, lineReservedFault, lineRangeFault};
+ghost use Rattle.cases.specs.Form.{filled, tooLarge, reservedFilled, lineReservedFault, lineRangeFault};
 use crate::Case;
 use crate::Line;
 use crate::Rules;
@@ -62,18 +62,24 @@ fn test_amounts(n: &[u64]) -> AmountTests
     }
 }
 
+// Whether something that must be zero in line i by its kind and place is not.
+fn reserved_filled(rules: Rules, i: u8, l: Line) -> bool
+    ensures { λ r. ⌜ r ≡ reservedFilled rules i l ⌝ }
+{
+    (!rules.dated & !calendar::is_zero(l.date))
+        | (!rules.lump & ((l.lump != 0) | (l.scheme_pays_lump != 0)))
+        | (!rules.modification & (l.modification != 0))
+        | ((1 <= i) & ((l.additional != 0) | (l.dependant != 0)))
+}
+
 fn faults_of_line(rules: Rules, count: u8, i: u8, l: Line) -> Faults
     ensures { λ r. ⌜ (r .reserved ≡ lineReservedFault rules count i l) × (r .range ≡ lineRangeFault rules count i l) ⌝ }
 {
     let amounts = amounts_of(l);
     let tests = test_amounts(&amounts);
-    let has_date = !calendar::is_zero(l.date);
     Faults {
-        reserved: ((count <= i) & (has_date | tests.filled))
-            | (!rules.dated & has_date)
-            | (!rules.lump & ((l.lump != 0) | (l.scheme_pays_lump != 0)))
-            | (!rules.modification & (l.modification != 0))
-            | ((1 <= i) & ((l.additional != 0) | (l.dependant != 0))),
+        reserved: ((count <= i) & (!calendar::is_zero(l.date) | tests.filled))
+            | reserved_filled(rules, i, l),
         range: tests.too_large | (rules.dated & (i < count) & !calendar::is_real(l.date)),
     }
 }

@@ -1,8 +1,8 @@
--- Whether a transfer is open to the member: the tests of dates and of entitlement, in their order.
+-- Whether a transfer is open to the member: the tests of the dates, then those of the member, in their order.
 -- Assumes nothing.
 use Prim.Native.Nat.{ℕ}
 use mathlib.Core.Bool.{Bool, cond, not, _&&_, _||_}
-use mathlib.Core.List.{List, [], _∷_}
+use mathlib.Core.List.{List, [], _∷_, _++_}
 use lib.Dec.{eqb, leb, ltb}
 use Rattle.calendar.specs.Dates.{before}
 use Rattle.calendar.specs.Moving.{movedOn}
@@ -45,11 +45,15 @@ ageFault c = cond (rulesOf (c .kind) .dated) (anyLine (reached c) c) (leb (rules
 abbrev pub datesTests : Case → List Test
 datesTests c = (datesFault c gives Dates) ∷ []
 
--- 7 status: not deferred; 8 receiver: not a defined benefit scheme; 9 service: under 3 months
-abbrev pub entitlementTests : Case → List Test
-entitlementTests c =
+-- 7 status: the member is not deferred; 8 receiver: the receiving scheme is of another type than defined benefit; 9 service: less
+-- than 3 months
+abbrev pub memberTests : Case → List Test
+memberTests c =
     (not (eqb (c .status) 1) gives Status) ∷
     (not (eqb (c .receiver) 1) gives Receiver) ∷
     (ltb (c .service) 3 gives Service) ∷
     (referFault c gives Refer) ∷
     (ageFault c gives Age) ∷ []
+
+abbrev pub entitlementTests : Case → List Test
+entitlementTests c = datesTests c ++ memberTests c

@@ -2,5 +2,4 @@
 mod dates;
 mod stages;
 
-pub use stages::dates_verdict;
 pub use stages::entitlement_verdict;

@@ -1,4 +1,4 @@
-// The tests of a case's dates and of the member's entitlement, each in the order of its own list.
+// The tests of a case's dates and those of the member, each in the order of its own list.
 ghost use mathlib.Core.Path.{_≡_};
 ghost use Rattle.refusals.specs.Tests.{first, verdictNumber};
 ghost use Rattle.entitlement.specs.Entitlement as entitlement;
@@ -8,24 +8,31 @@ use crate::dates::refer_fault;
 use cases::Case;
 use refusals::Refusal;
 use refusals::Verdict;
+use refusals::or_else;
 use refusals::refuse_if;
 
 // Refusal 6, or that it does not apply.
-pub fn dates_verdict(c: Case) -> Verdict
-    ensures verdict { λ r. ⌜ r ≡ first (entitlement.datesTests c) ⌝ }
-    ensures number { λ r. ⌜ verdictNumber r ≡ verdictNumber (first (entitlement.datesTests c)) ⌝ }
+fn dates_verdict(c: Case) -> Verdict
+    ensures { λ r. ⌜ r ≡ first (entitlement.datesTests c) ⌝ }
 {
     refuse_if(dates_fault(c), Refusal::Dates, Verdict::Passed)
 }
 
 // The first of refusals 7 to 11 that applies, or that none does.
-pub fn entitlement_verdict(c: Case) -> Verdict
-    ensures verdict { λ r. ⌜ r ≡ first (entitlement.entitlementTests c) ⌝ }
-    ensures number { λ r. ⌜ verdictNumber r ≡ verdictNumber (first (entitlement.entitlementTests c)) ⌝ }
+fn member_verdict(c: Case) -> Verdict
+    ensures { λ r. ⌜ r ≡ first (entitlement.memberTests c) ⌝ }
 {
     let age = refuse_if(age_fault(c), Refusal::Age, Verdict::Passed);
     let refer = refuse_if(refer_fault(c), Refusal::Refer, age);
     let service = refuse_if(c.service < 3, Refusal::Service, refer);
     let receiver = refuse_if(c.receiver != 1, Refusal::Receiver, service);
     refuse_if(c.status != 1, Refusal::Status, receiver)
+}
+
+// The first of refusals 6 to 11 that applies, or that none does.
+pub fn entitlement_verdict(c: Case) -> Verdict
+    ensures verdict { λ r. ⌜ r ≡ first (entitlement.entitlementTests c) ⌝ }
+    ensures number { λ r. ⌜ verdictNumber r ≡ verdictNumber (first (entitlement.entitlementTests c)) ⌝ }
+{
+    or_else(dates_verdict(c), member_verdict(c))
 }

@@ -1,7 +1,7 @@
 -- What a test over a list says of each member.
 -- Assumes nothing.
 use Prim.Native.Nat.{ℕ, zero, suc, _-_, _≤_, _<_}
-use mathlib.Core.Bool.{Bool, true, false, _||_, and-eq-true-iff}
+use mathlib.Core.Bool.{Bool, true, false, _||_, and-eq-true-iff, false≢true}
 use mathlib.Core.List.{List, [], _∷_}
 use mathlib.Core.Path.{_≡_, sym, ap, _∙_}
 use native.Mathlib.Omega.{arith}
@@ -18,6 +18,27 @@ each (x ∷ xs) f = (f x, each xs f)
 pub each-not : {A : Type 0} {P : A → Type 0} (t : A → Bool) (xs : List A) → ((x : A) → t x ≡ false → P x) → any t xs ≡ false → Each xs P
 each-not t [] f e = tt
 each-not t (x ∷ xs) f e = let b = or-false (t x) (any t xs) e in (f x (b .0), each-not t xs f (b .1))
+
+-- whether x is a member of a list of what can be told apart
+abbrev orIf : {P : Type 0} → Dec P → Bool → Bool
+orIf (yes p) b = true
+orIf (no q) b = b
+
+abbrev pub listed : {A : Type 0} → ((x y : A) → Dec (x ≡ y)) → A → List A → Bool
+listed d x [] = false
+listed d x (y ∷ ys) = orIf (d x y) (listed d x ys)
+
+-- then what a test says of every member it says of x
+pub of-listed : {A : Type 0} (d : (x y : A) → Dec (x ≡ y)) (t : A → Bool) (x : A) (xs : List A) → listed d x xs ≡ true → every t xs ≡ true → t x ≡ true
+of-listed d t x [] e h = absurd (false≢true e)
+of-listed d t x (y ∷ ys) e h = go (d x y) e (of-listed d t x ys)
+  where
+    both : (t y ≡ true) × (every t ys ≡ true)
+    both = and-eq-true-iff (t y) (every t ys) .0 h
+
+    go : (s : Dec (x ≡ y)) → orIf s (listed d x ys) ≡ true → (listed d x ys ≡ true → every t ys ≡ true → t x ≡ true) → t x ≡ true
+    go (yes p) e rest = rw p (both .0)
+    go (no q) e rest = rest e (both .1)
 
 -- a test over a list from its end to its start: of none, and of one member more
 pub any-past : (t : ℕ → Bool) (xs : List ℕ) → false ≡ any t (drop (length xs) xs)

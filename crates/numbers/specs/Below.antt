@@ -1,4 +1,4 @@
--- Sums, any, how many and the fewest, over the numbers below n.
+-- Sums, tests and counts over the numbers below n.
 -- Assumes nothing.
 use Prim.Native.Nat.{ℕ, zero, suc, _+_}
 use mathlib.Core.Bool.{Bool, false, cond, _||_}

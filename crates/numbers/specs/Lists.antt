@@ -1,4 +1,4 @@
--- Any, every and each, over the members of a list.
+-- Tests and facts of the members of a list.
 -- Assumes nothing.
 use mathlib.Core.Bool.{Bool, true, false, _&&_, _||_}
 use mathlib.Core.List.{List, [], _∷_}

@@ -4,9 +4,9 @@ use mathlib.Core.Path.{_≡_, refl}
 use Rattle.buffers.specs.Decimal.{lastDigits, digitsWithin, decimal}
 use Rattle.buffers.specs.Text.{ascii}
 use Rattle.refusals.specs.declared.Refusal.the-variants.{Kind}
-use Rattle.valuing.specs.declared.Answer.{Answer}
-use Rattle.valuing.specs.declared.Outcome.the-variants.{Paid, Refused}
-use Rattle.report.specs.Lines.{header, paidText, refusedText, lineOf, endLine}
+use Rattle.answers.specs.declared.Answer.{Answer}
+use Rattle.answers.specs.declared.Outcome.the-variants.{Paid, Refused}
+use Rattle.report.specs.Lines.{paidText, refusedText, lineOf, endLine}
 
 abbrev first : Answer
 first =
@@ -44,9 +44,6 @@ second =
 
 abbrev third : Answer
 third = record { number = 0; outcome = Refused Kind }
-
-pub first-line : header ≡ ascii "transfer values\n"
-first-line = refl
 
 pub first-block : lineOf 1 first ≡ ascii "1 1 pay 136869.00 pension 117921.6000 lump 14364.0000 survivor 4817.9250 deduct 234.6000 underpin 0.00 avc 0.00\n"
 unfolding lineOf paidText decimal digitsWithin lastDigits

@@ -10,7 +10,6 @@ use lib.ListN.{length, take, drop, length-append, length-take, length-drop}
 use borrow.Author.Tests.{lt-ltb, le-ltb}
 use Rattle.buffers.specs.Text.{Written}
 use Rattle.buffers.proofs.Writing.{from-start, in-part}
-use Rattle.refusals.specs.declared.Refusal.{Refusal}
 use Rattle.refusals.specs.declared.Refusal.the-variants.{Buffer}
 use Rattle.report.specs.Forming.{formedAs, bufferWith, formedNumbers}
 use Rattle.report.specs.declared.Formed.{Formed}
@@ -54,11 +53,3 @@ module _ (b : List ℕ) (at : ℕ) (line : List ℕ) (k : ℕ) (size : k ≡ 256
       let ly : length after ≡ length line + (length part - length line) = ap length y ∙ simp (length-append, length-drop) in
       let short : length line ≤ k = omega arith in
       (rw (y, en) (in-part (omega arith) short), omega arith)
-
-  -- and not refused
-  pub part-not-refused : {r : Refusal} → Refused r ≡ formedAs (length (take k (drop at b))) line → ⊥
-  unfolding formedAs
-  part-not-refused {r} answer =
-      let q : Refused r ≡ Line (length line) = rw enough at answer in
-      let z : _≡_ {A = ℕ} 0 1 = cc in
-      omega arith

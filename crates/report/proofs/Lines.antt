@@ -13,10 +13,10 @@ use Rattle.buffers.proofs.Decimal.{decimal-short, length-digits}
 use Rattle.refusals.proofs.Naming.{name-short, number-short}
 use Rattle.refusals.specs.Refusals.{numberOf}
 use Rattle.refusals.specs.declared.Refusal.{Refusal}
-use Rattle.valuing.specs.declared.Answer.{Answer}
-use Rattle.valuing.specs.declared.Items.{Items}
-use Rattle.valuing.specs.declared.Outcome.{Outcome}
-use Rattle.valuing.specs.declared.Outcome.the-variants.{Paid, Refused}
+use Rattle.answers.specs.declared.Answer.{Answer}
+use Rattle.answers.specs.declared.Items.{Items}
+use Rattle.answers.specs.declared.Outcome.{Outcome}
+use Rattle.answers.specs.declared.Outcome.the-variants.{Paid, Refused}
 use Rattle.report.specs.declared.Formed.the-variants.{Line}
 use Rattle.report.specs.Lines.{paidText, refusedText, outcomeText, lineOf, endLine}
 use Rattle.report.proofs.Forming.{Promise, formed}

@@ -14,7 +14,7 @@ use Rattle.report.specs.declared.Formed.the-variants.{Line, Refused}
 unfoldable pub formedAs : ℕ → List ℕ → Formed
 formedAs size line = cond (ltb size 256) (Refused Buffer) (Line (length line))
 
--- no byte is changed where it is refused; otherwise the line stands at the start and later bytes keep their contents
+-- the buffer afterwards: as it was where that is refused, else the line at its start and every byte after the line as it was
 unfoldable pub bufferWith : List ℕ → List ℕ → List ℕ
 bufferWith buffer line = cond (ltb (length buffer) 256) buffer (line ++ drop (length line) buffer)
 

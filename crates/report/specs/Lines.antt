@@ -6,10 +6,10 @@ use Rattle.buffers.specs.Decimal.{lastDigits, decimal}
 use Rattle.buffers.specs.Text.{ascii}
 use Rattle.refusals.specs.Refusals.{numberOf, nameOf}
 use Rattle.refusals.specs.declared.Refusal.{Refusal}
-use Rattle.valuing.specs.declared.Answer.{Answer}
-use Rattle.valuing.specs.declared.Items.{Items}
-use Rattle.valuing.specs.declared.Outcome.{Outcome}
-use Rattle.valuing.specs.declared.Outcome.the-variants.{Paid, Refused}
+use Rattle.answers.specs.declared.Answer.{Answer}
+use Rattle.answers.specs.declared.Items.{Items}
+use Rattle.answers.specs.declared.Outcome.{Outcome}
+use Rattle.answers.specs.declared.Outcome.the-variants.{Paid, Refused}
 
 -- the first line
 abbrev pub header : List ℕ
@@ -23,7 +23,7 @@ withPoint word pounds d n = word ++ decimal pounds ++ ascii "." ++ lastDigits d 
 abbrev pub item : List ℕ → ℕ → ℕ → List ℕ
 item word d n = withPoint word (n / 10 ^ d) d n
 
--- a payment with its items: payment, underpin and AVC are pounds with two decimals, the other items pounds with four
+-- a payment with its items, in pounds: two decimals for what is whole pence (payment, underpin, AVC), four for what is not
 unfoldable pub paidText : Items → List ℕ
 paidText i =
     item (ascii " pay ") 2 (i .payment) ++

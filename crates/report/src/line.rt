@@ -7,11 +7,11 @@ ghost use Rattle.report.specs.Forming.{formedAs, formedNumbers, bufferWi
 use crate::Formed;
 use crate::parts::put_items;
 use crate::parts::put_refusal;
+use answers::Answer;
+use answers::Outcome;
 use buffers::put;
 use buffers::put_decimal;
 use refusals::Refusal;
-use valuing::Answer;
-use valuing::Outcome;
 
 // The fewest bytes in which a line is formed.
 const LEAST: usize = 256;

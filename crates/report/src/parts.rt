@@ -1,13 +1,13 @@
 // The parts of a block's line after its numbers, each written where there is room for it.
 ghost use Rattle.buffers.specs.Text.{WrittenIfRoom};
 ghost use Rattle.report.specs.Lines.{withPoint, paidText, refusedText};
+use answers::Items;
 use buffers::put;
 use buffers::put_decimal;
 use buffers::put_digits;
 use refusals::Refusal;
 use refusals::put_name;
 use refusals::refusal_number;
-use valuing::Items;
 
 // A word and an amount: whole pounds, a point, and the last d digits of n.
 fn put_item(out: &mut [u8], at: usize, word: &[u8], pounds: u64, n: u64, d: usize) -> usize

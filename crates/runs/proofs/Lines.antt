@@ -7,8 +7,8 @@ use native.Mathlib.Nat.{add-zero, zero-add, add-assoc}
 use native.Mathlib.Omega.{arith}
 use lib.ListN.{length}
 use Rattle.valuing.specs.Block.{blockAnswer}
-use Rattle.valuing.specs.declared.Outcome.{Outcome}
-use Rattle.valuing.specs.declared.Outcome.the-variants.{Paid, Refused}
+use Rattle.answers.specs.declared.Outcome.{Outcome}
+use Rattle.answers.specs.declared.Outcome.the-variants.{Paid, Refused}
 use Rattle.report.specs.Lines.{lineOf}
 use Rattle.runs.specs.Run.{lines, paidOne, paidIn}
 

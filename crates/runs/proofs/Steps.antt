@@ -18,7 +18,7 @@ use Rattle.runs.specs.declared.Counts.{Counts}
 use Rattle.runs.specs.declared.Progress.{Progress}
 use Rattle.blocks.specs.Files.{blockCount, allBlocks}
 use Rattle.runs.specs.Run.{limit, lines, left, wantedAfter, counted}
-use Rattle.runs.specs.Steps.{kept, wantedUnless, chunk, countsAfter, wantedNext, stepText, Reported, Adds}
+use Rattle.runs.specs.Steps.{kept, wantedUnless, chunk, countsAfter, wantedNext, stepText, Reported, Continues}
 use Rattle.blocks.proofs.Files.{length-blocks}
 use Rattle.runs.proofs.Left.{left-after}
 use Rattle.runs.proofs.Reports.{left-reported, reported-more, reported-whole}
@@ -124,8 +124,8 @@ module _ (t : Counts) (input : List ℕ) (got : ℕ) (failed : Bool) where
     no-more g f z short (ended b h e) = inl (short h)
     no-more g f z short (full b h e) = inr (omega (arith, left-then, left-reported g, g .whole))
 
-    pub step-adds : {r : Progress} {bytes : List ℕ} → r .counts ≡ after → r .wanted ≡ w → bytes ≡ stepText t input got failed → Adds t input got failed r bytes
-    step-adds {r} {bytes} ec ew eb =
+    pub step-continues : {r : Progress} {bytes : List ℕ} → r .counts ≡ after → r .wanted ≡ w → bytes ≡ stepText t input got failed → Continues t input got failed r bytes
+    step-continues {r} {bytes} ec ew eb =
         let near = few t input got size failed in
         let all = way t input got size failed in
         let on : (failed ≡ false → 0 < w) → (done text : List ℕ) → Reported done t text → Reported (done ++ s) (r .counts) (text ++ bytes) =

@@ -8,7 +8,7 @@ use lib.ListN.{length, take, drop}
 use Rattle.buffers.specs.Text.{Written}
 use Rattle.buffers.proofs.Writing.{then-written}
 use Rattle.valuing.specs.Block.{blockAnswer}
-use Rattle.valuing.specs.declared.Answer.{Answer}
+use Rattle.answers.specs.declared.Answer.{Answer}
 use Rattle.report.specs.Lines.{lineOf}
 use Rattle.runs.specs.declared.Counts.{Counts}
 use Rattle.blocks.specs.Files.{blocks, blockCount, allBlocks}

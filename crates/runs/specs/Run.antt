@@ -6,8 +6,8 @@ use mathlib.Core.List.{List, [], _∷_, _++_}
 use lib.Dec.{leb}
 use lib.ListN.{length}
 use Rattle.valuing.specs.Block.{blockAnswer}
-use Rattle.valuing.specs.declared.Outcome.{Outcome}
-use Rattle.valuing.specs.declared.Outcome.the-variants.{Paid, Refused}
+use Rattle.answers.specs.declared.Outcome.{Outcome}
+use Rattle.answers.specs.declared.Outcome.the-variants.{Paid, Refused}
 use Rattle.report.specs.Lines.{header, lineOf, endLine}
 use Rattle.runs.specs.declared.Counts.{Counts}
 use Rattle.blocks.specs.Files.{blockCount, blocks}

@@ -56,7 +56,7 @@ pub record Reported (done : List ℕ) (t : Counts) (text : List ℕ) : Type 0 wh
 
 -- what a step adds to the text so far, where the bytes done were reported before it: r is its answer, and bytes are those that it
 -- formed
-pub record Adds (t : Counts) (input : List ℕ) (got : ℕ) (failed : Bool) (r : Progress) (bytes : List ℕ) : Type 0 where
+pub record Continues (t : Counts) (input : List ℕ) (got : ℕ) (failed : Bool) (r : Progress) (bytes : List ℕ) : Type 0 where
   -- while more is wanted, the chunk is reported too
   pub going : (done text : List ℕ) → Reported done t text → 0 < r .wanted → Reported (done ++ chunk t input got failed) (r .counts) (text ++ bytes)
   -- so it is where a read failed, which ends the run

@@ -7,8 +7,8 @@ ghost use Rattle.blocks.specs.Files.{allBlocks};
 ghost use Rattle.runs.specs.Run.{lines, paidOne, wantedAfter, counted};
 use crate::Counts;
 use crate::line::put_line;
-use valuing::Answer;
-use valuing::Outcome;
+use answers::Answer;
+use answers::Outcome;
 use valuing::value_block;
 
 // The counts after a chunk, and how many bytes its lines take.

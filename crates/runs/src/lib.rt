@@ -6,6 +6,12 @@ mod run;
 pub use run::start;
 pub use run::step;
 
+// What a step reads from: 128 blocks.
+pub type Input = [u8; 65536];
+
+// What it writes to: room for the lines of 128 blocks and the end line, at 256 bytes a line.
+pub type Output = [u8; 33024];
+
 // How many blocks were read, and how many of them were paid.
 pub struct Counts {
     pub blocks: u32,

@@ -7,10 +7,10 @@ ghost use lib.ListN.{length};
 ghost use Rattle.buffers.specs.Text.{Written};
 ghost use Rattle.report.specs.Lines.{lineOf, endLine};
 use crate::Counts;
+use answers::Answer;
 use report::Formed;
 use report::form_end;
 use report::form_line;
-use valuing::Answer;
 
 // The index after a line that was formed at an index.
 pub(crate) fn end_of(at: usize, formed: Formed) -> usize

@@ -5,20 +5,16 @@ ghost use Prim.Native.Nat.{_+_, _≤_, min};
 ghost use lib.ListN.{length, take, drop};
 ghost use Rattle.report.specs.Lines.{header};
 ghost use Rattle.runs.specs.Run.{left, wantedAfter};
-ghost use Rattle.runs.specs.Steps.{kept, wantedUnless, startOf, stepOf, stepText, Reported, Adds};
+ghost use Rattle.runs.specs.Steps.{kept, wantedUnless, startOf, stepOf, stepText, Reported, Continues};
 use crate::Counts;
+use crate::Input;
+use crate::Output;
 use crate::Progress;
 use crate::chunk::least;
 use crate::chunk::put_lines;
 use crate::line::end_of;
 use crate::line::put_end;
 use report::form_header;
-
-// Room for the lines of a chunk and the end line, at 256 bytes a line.
-type Output = [u8; 33024];
-
-// 128 blocks.
-type Input = [u8; 65536];
 
 fn wanted_after(counts: Counts) -> usize
     ensures { λ r. ⌜ r ≡ wantedAfter counts ⌝ }
@@ -59,12 +55,12 @@ pub fn start(out: &mut Output) -> Progress
     }
 }
 
-// Goes on with a run after a read of what it wanted, which put got bytes at the start of input, and may have failed then.
-// Where fewer bytes came than were wanted, the file has ended.
+// Continues a run after a read that put `got` bytes at the start of `input` and may then have failed. Where fewer bytes came than
+// were wanted, the file has ended.
 pub fn step(counts: Counts, input: &Input, got: usize, failed: bool, out: &mut Output) -> Progress
     ensures answer { λ r. ⌜ r ≡ stepOf counts (now (input .entry)) got failed ⌝ }
     ensures bytes { λ r. ⌜ now (out .exit) ≡ stepText counts (now (input .entry)) got failed ++ drop (r .length) (now (out .entry)) ⌝ }
-    ensures file { λ r. ⌜ Adds counts (now (input .entry)) got failed r (take (r .length) (now (out .exit))) ⌝ }
+    ensures file { λ r. ⌜ Continues counts (now (input .entry)) got failed r (take (r .length) (now (out .exit))) ⌝ }
     ensures room { λ r. ⌜ (r .wanted ≤ 65536) × (r .length ≤ 33024) ⌝ }
     ensures less { λ r. ⌜ left (r .counts) + min 1 (r .wanted) ≤ left counts ⌝ }
 {

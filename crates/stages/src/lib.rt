@@ -1,18 +1,18 @@
 // The stages of the way of a block, one function to a stage, for the benchmark to time: each does the work of those before it.
 ghost use mathlib.Core.Path.{_≡_};
-ghost use Rattle.blocks.specs.Block.{checkOf};
+ghost use Rattle.blocks.specs.Block.{checksumOrZero};
 ghost use Rattle.blocks.specs.Reading.{readingOf};
 ghost use Rattle.valuing.specs.Block.{blockAnswer};
-ghost use Rattle.valuing.specs.Answer.{paid};
+ghost use Rattle.answers.specs.Answer.{paid};
+use answers::Outcome;
 use blocks::block_checksum;
 use blocks::read_block;
-use valuing::Outcome;
 use valuing::value_block;
 
 // The checksum of a block.
 #[no_mangle]
 pub extern "C" fn stages_check(block: &[u8]) -> u32
-    ensures { λ r. ⌜ r ≡ checkOf (now (block .entry)) ⌝ }
+    ensures { λ r. ⌜ r ≡ checksumOrZero (now (block .entry)) ⌝ }
 {
     block_checksum(block)
 }

@@ -11,7 +11,7 @@ use Rattle.cases.specs.Entries.{line}
 use Rattle.cases.specs.declared.Line.{Line}
 use Rattle.cases.specs.declared.Case.{Case}
 use Rattle.factors.specs.declared.Factors.{Factors}
-use Rattle.sums.specs.Sum.{Benefit, memberPension, lumpSum, survivorPension, entered, revalued, schemePaysOn, exceeds, schemePaysExceeds, schemePaysFault, deduction, credit, negative}
+use Rattle.sums.specs.Sum.{Benefit, memberPension, lumpSum, survivorPension, entered, revalued, schemePaysOn, exceeds, schemePaysExceeds, schemePaysFault, deduction, credit, negativeFault}
 
 pub covered :
     (c : Case) → schemePaysFault c ≡ false → (j : ℕ) → j < 4 → (b : Benefit) →
@@ -30,6 +30,6 @@ covered c e j h = go (or-false (exceeds v l memberPension) (exceeds v l lumpSum)
     go both lumpSum = ltb-false _ _ (both .1)
     go both survivorPension = omega arith
 
-pub not-negative : (f : ℕ → Factors) (c : Case) → negative f c ≡ false → deduction f c ≤ credit f c
-unfolding negative
+pub not-negative : (f : ℕ → Factors) (c : Case) → negativeFault f c ≡ false → deduction f c ≤ credit f c
+unfolding negativeFault
 not-negative f c e = ltb-false _ _ e

@@ -14,7 +14,7 @@ use Rattle.cases.specs.Entries.{line}
 use Rattle.cases.specs.declared.Line.{Line}
 use Rattle.cases.specs.declared.Case.{Case}
 use Rattle.factors.specs.declared.Factors.{Factors}
-use Rattle.sums.specs.Sum.{Benefit, memberPension, lumpSum, survivorPension, entered, revalued, schemePaysOn, factor, itemAt, deductionAt, overBenefits, item, deduction, credit, negative, grossBy, schemePaysFault}
+use Rattle.sums.specs.Sum.{Benefit, memberPension, lumpSum, survivorPension, entered, revalued, schemePaysOn, factor, itemAt, deductionAt, overBenefits, item, deduction, credit, negativeFault, grossBy, schemePaysFault}
 use Rattle.sums.proofs.Order.{each, of-each, NoWorse, revalued-mono}
 use Rattle.sums.proofs.Covered.{covered, not-negative}
 
@@ -78,7 +78,7 @@ module _
     (rate : c .revaluation ≡ d .revaluation)
     (rest : (j : ℕ) → (j ≡ i → ⊥) → line c j ≡ line d j)
     (b : Benefit) (e : ℕ) (r : Raised b e (line c i) (line d i))
-    (noExcess : schemePaysFault c ≡ false) (notNegative : negative f c ≡ false)
+    (noExcess : schemePaysFault c ≡ false) (notNegative : negativeFault f c ≡ false)
   where
     rise : Benefit → ℕ → ℕ
     rise x n = growth (c .revaluation) (entered x (line c i)) n * factor x (f i)

@@ -16,6 +16,6 @@ abbrev pub inUnits : ℕ → ℕ → ℕ
 inUnits unit g = nearest unit g * unit
 
 -- 5: the gross value in the kind's unit of payment (kind 1 whole pounds, kind 2 pence), or the underpin where that is larger. A
--- kind without transfers has no transfer flag, so its underpin is 0. 6: the AVC is added last (house rule)
+-- kind without transfers has no transfer flag, so its underpin is 0. 6: then the AVC comes on top (a house rule)
 unfoldable pub payment : Case → ℕ → ℕ
 payment c g = max (inUnits (rulesOf (c .kind) .unit) g) (underpin c) + c .avc

@@ -65,8 +65,8 @@ module _ (f : ℕ → Factors) (c : Case) where
   credit = overBenefits item
 
   -- 4: the total of what is added and what is taken off is below zero
-  unfoldable pub negative : Bool
-  negative = ltb credit deduction
+  unfoldable pub negativeFault : Bool
+  negativeFault = ltb credit deduction
 
   -- 4: the gross value: the total, where it is not below zero, rounded once to the penny
   unfoldable pub grossBy : ℕ

@@ -1,9 +1,11 @@
-// Values a case file on standard input, and writes its report to standard output: reads what a run wants, goes a step on, and
-// writes what the step formed. What is read and written is not proved; what the steps make of it is, in the crate `runs`.
+// Values a case file on standard input, and writes its report to standard output: reads what a run wants, takes a step, and writes
+// what the step formed. What is read and written is not proved; what the steps make of it is, in the crate `runs`.
 ghost use Prim.Native.Nat.{_≤_};
 ghost use lib.ListN.{length};
 use libc::STDIN_FILENO;
 use libc::STDOUT_FILENO;
+use runs::Input;
+use runs::Output;
 
 // How many bytes were read, and whether a read failed.
 struct Filled {
@@ -11,7 +13,7 @@ struct Filled {
     failed: bool,
 }
 
-// Reads until so many bytes are there as are wanted, the input ends or a read fails: a pipe may hand over a few bytes at a time.
+// Reads until all that is wanted has come, the input ends, or a read fails: a pipe may hand over a few bytes at a time.
 fn fill(buf: &mut [u8], wanted: usize) -> Filled
     requires { ⌜ wanted ≤ length (now buf) ⌝ }
     ensures { λ r. ⌜ r .length ≤ wanted ⌝ }
@@ -41,7 +43,7 @@ fn fill(buf: &mut [u8], wanted: usize) -> Filled
 }
 
 // Reads what is wanted, and says where that failed.
-fn read(input: &mut [u8; 65536], wanted: usize) -> Filled
+fn read(input: &mut Input, wanted: usize) -> Filled
     requires { ⌜ wanted ≤ 65536 ⌝ }
 {
     let filled = fill(input, wanted);
@@ -52,7 +54,7 @@ fn read(input: &mut [u8; 65536], wanted: usize) -> Filled
 }
 
 // Writes the first bytes of a buffer, and says where that failed.
-fn write(out: &[u8; 33024], length: usize) -> bool
+fn write(out: &Output, length: usize) -> bool
     requires { ⌜ length ≤ 33024 ⌝ }
 {
     let bytes = &out[..];

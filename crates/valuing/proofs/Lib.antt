@@ -4,6 +4,3 @@ pub mod Carried
 pub mod Settled
 pub mod Stages
 pub mod Past
-pub mod Acceptance
-pub mod Comparison
-pub mod Figures

@@ -1,7 +1,7 @@
 -- What refusal 5 leaves: amounts, revaluation and so the items are in their ranges.
 -- Assumes nothing.
 use Prim.Native.Nat.{ℕ, zero, suc, _+_, _*_, _≤_, _<_}
-use mathlib.Core.Bool.{Bool, true, false, cond, not, _&&_}
+use mathlib.Core.Bool.{Bool, true, false, cond, not}
 use mathlib.Core.List.{[], _∷_}
 use mathlib.Core.Path.{_≡_}
 use native.Mathlib.Nat.{mul-le-mul}
@@ -12,7 +12,6 @@ use Rattle.numbers.proofs.Rounding.{nearest-half}
 use Rattle.numbers.proofs.Tests.{or-false, none-holds}
 use Rattle.numbers.proofs.Below.{any-false}
 use Rattle.numbers.proofs.Lists.{each-not}
-use Rattle.calendar.specs.Dates.{isReal}
 use Rattle.cases.specs.Layout.{amounts}
 use Rattle.cases.specs.Entries.{line, anyLine, amountIn}
 use Rattle.cases.specs.Form.{tooLarge, lineRangeFault, headRangeFault, rangeFault, statusListed, receiverListed, datesRangeFault}

@@ -9,13 +9,13 @@ use Rattle.numbers.specs.Rounding.{nearest}
 use Rattle.cases.specs.declared.Case.{Case}
 use Rattle.refusals.specs.declared.Refusal.the-variants.{Negative}
 use Rattle.sums.specs.Rows.{factorsOf}
-use Rattle.sums.specs.Sum.{item, deduction, credit, negative, grossBy}
+use Rattle.sums.specs.Sum.{item, deduction, credit, negativeFault, grossBy}
 use Rattle.sums.specs.Payment.{underpin, payment}
-use Rattle.valuing.specs.Answer.{grossOf, itemsOf}
+use Rattle.answers.specs.Answer.{grossOf, itemsOf}
 use Rattle.valuing.specs.Totals.{TotalsBelow, restOf}
-use Rattle.valuing.specs.declared.Items.{Items}
-use Rattle.valuing.specs.declared.Outcome.{Outcome}
-use Rattle.valuing.specs.declared.Outcome.the-variants.{Paid, Refused}
+use Rattle.answers.specs.declared.Items.{Items}
+use Rattle.answers.specs.declared.Outcome.{Outcome}
+use Rattle.answers.specs.declared.Outcome.the-variants.{Paid, Refused}
 use Rattle.valuing.specs.declared.sum.Totals.{Totals}
 use Rattle.valuing.specs.declared.sum.Rest.{Rest}
 use Rattle.valuing.specs.declared.sum.Rest.the-variants.{Left, Below}
@@ -67,8 +67,8 @@ module _ (c : Case) (t : Totals) (carried : TotalsBelow c 4 t) where
   outcomeOf Below = Refused Negative
   outcomeOf (Left n) = Paid (itemsLeft n)
 
-  pub settled : (r : Rest) → r ≡ restOf (t .pension + t .lump + t .survivor) (t .deduction) → outcomeOf r ≡ cond (negative (factorsOf c) c) (Refused Negative) (Paid (itemsOf c))
-  unfolding negative
+  pub settled : (r : Rest) → r ≡ restOf (t .pension + t .lump + t .survivor) (t .deduction) → outcomeOf r ≡ cond (negativeFault (factorsOf c) c) (Refused Negative) (Paid (itemsOf c))
+  unfolding negativeFault
   settled r e =
       ap outcomeOf e
       ∙ go (ltb (t .pension + t .lump + t .survivor) (t .deduction))

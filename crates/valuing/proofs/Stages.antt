@@ -12,10 +12,10 @@ use Rattle.refusals.proofs.Order.{first-append, first-none, none-given, first-p
 use Rattle.cases.specs.Form.{formTests, rangeFault, WellFormed}
 use Rattle.cases.specs.declared.Case.{Case}
 use Rattle.sums.specs.Rows.{factorsOf}
-use Rattle.sums.specs.Sum.{negative, schemePaysFault}
-use Rattle.entitlement.specs.Entitlement.{datesTests, entitlementTests}
-use Rattle.valuing.specs.Answer.{factorFault, amountTests, tests, itemsOf, outcomeBy, answerOf}
-use Rattle.valuing.specs.declared.Outcome.the-variants.{Paid, Refused}
+use Rattle.sums.specs.Sum.{negativeFault, schemePaysFault}
+use Rattle.entitlement.specs.Entitlement.{entitlementTests}
+use Rattle.answers.specs.Answer.{factorFault, amountTests, tests, itemsOf, outcomeBy, answerOf}
+use Rattle.answers.specs.declared.Outcome.the-variants.{Paid, Refused}
 
 pub in-range : (c : Case) → WellFormed c → rangeFault c ≡ false
 in-range c w = none-given Range (formTests false c) w
@@ -23,15 +23,15 @@ in-range c w = none-given Range (formTests false c) w
 -- of a case whose form is refused
 pub by-form : (c : Case) (why : Refusal) → first (formTests false c) ≡ Refusing why → Refused why ≡ answerOf c
 unfolding answerOf tests
-by-form c why e = ap (λ (v : Verdict). outcomeBy v c) (sym (first-stays (formTests false c) (datesTests c ++ entitlementTests c ++ amountTests c) e))
+by-form c why e = ap (λ (v : Verdict). outcomeBy v c) (sym (first-stays (formTests false c) (entitlementTests c ++ amountTests c) e))
 
--- of one that is well formed: the verdict on dates and entitlement, else the amounts
-pub by-stages : (c : Case) → WellFormed c → (v : Verdict) → v ≡ orElse (first (datesTests c)) (first (entitlementTests c)) → outcomeBy (orElse v (first (amountTests c))) c ≡ answerOf c
+-- of one that is well formed: the verdict on entitlement, else the amounts
+pub by-stages : (c : Case) → WellFormed c → (v : Verdict) → v ≡ first (entitlementTests c) → outcomeBy (orElse v (first (amountTests c))) c ≡ answerOf c
 unfolding answerOf tests
 by-stages c w v e =
-    ap (λ (u : Verdict). outcomeBy (orElse u (first (amountTests c))) c) (e ∙ sym (first-append (datesTests c) (entitlementTests c)))
+    ap (λ (u : Verdict). outcomeBy (orElse u (first (amountTests c))) c) e
     ∙ ap (λ (u : Verdict). outcomeBy u c)
-    (sym (first-past (formTests false c) (datesTests c ++ entitlementTests c ++ amountTests c) w ∙ first-append (datesTests c ++ entitlementTests c) (amountTests c)))
+    (sym (first-past (formTests false c) (entitlementTests c ++ amountTests c) w ∙ first-append (entitlementTests c) (amountTests c)))
 
 -- the tests of amounts before the total is known, and the one on it
 module _ (c : Case) where
@@ -39,13 +39,13 @@ module _ (c : Case) where
   earlier = (factorFault c gives Factor) ∷ (schemePaysFault c gives Debit) ∷ []
 
   abbrev last : List Test
-  last = (negative (factorsOf c) c gives Negative) ∷ []
+  last = (negativeFault (factorsOf c) c gives Negative) ∷ []
 
   pub by-earlier : (why : Refusal) → first earlier ≡ Refusing why → Refused why ≡ outcomeBy (first (amountTests c)) c
   by-earlier why e = ap (λ (v : Verdict). outcomeBy v c) (sym (first-stays earlier last e))
 
-  pub by-total : first earlier ≡ Passed → cond (negative (factorsOf c) c) (Refused Negative) (Paid (itemsOf c)) ≡ outcomeBy (first (amountTests c)) c
-  by-total e = go (negative (factorsOf c) c) ∙ ap (λ (v : Verdict). outcomeBy v c) (sym (first-past earlier last (first-none earlier e)))
+  pub by-total : first earlier ≡ Passed → cond (negativeFault (factorsOf c) c) (Refused Negative) (Paid (itemsOf c)) ≡ outcomeBy (first (amountTests c)) c
+  by-total e = go (negativeFault (factorsOf c) c) ∙ ap (λ (v : Verdict). outcomeBy v c) (sym (first-past earlier last (first-none earlier e)))
     where
       go : (s : Bool) → cond s (Refused Negative) (Paid (itemsOf c)) ≡ outcomeBy (first ((s gives Negative) ∷ [])) c
       go true = refl

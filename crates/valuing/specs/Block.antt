@@ -7,10 +7,10 @@ use Rattle.blocks.specs.Reading.{readingOf}
 use Rattle.refusals.specs.declared.Verdict.{Verdict}
 use Rattle.refusals.specs.declared.Verdict.the-variants.{Passed, Refused as Refusing}
 use Rattle.cases.specs.declared.Case.{Case}
-use Rattle.valuing.specs.Answer.{answerOf, outcomeNumbers}
-use Rattle.valuing.specs.Compare.{Demand3}
-use Rattle.valuing.specs.declared.Answer.{Answer}
-use Rattle.valuing.specs.declared.Outcome.the-variants.{Refused}
+use Rattle.answers.specs.Answer.{answerOf, outcomeNumbers}
+use Rattle.answers.specs.Compare.{Demand3}
+use Rattle.answers.specs.declared.Answer.{Answer}
+use Rattle.answers.specs.declared.Outcome.the-variants.{Refused}
 
 -- the outcome beside the case number, or beside 0 where reading gave the refusal
 abbrev pub answerBy : Verdict → Case → Answer

@@ -1,5 +1,2 @@
 pub mod Totals
-pub mod Answer
-pub mod Compare
-pub mod Figures
 pub mod Block

@@ -1,4 +1,4 @@
--- What the code carries from line to line on its way to the sum. No promise of the crate's public function speaks of these.
+-- What the code carries from line to line on its way to the sum. No promise of a public function speaks of these.
 -- Assumes nothing.
 use Prim.Native.Nat.{ℕ, _+_, _-_, _*_, _≤_}
 use mathlib.Core.Bool.{Bool, cond, _||_}

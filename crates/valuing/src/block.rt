@@ -1,9 +1,9 @@
 // Reading a block and valuing its case.
 ghost use mathlib.Core.Path.{_≡_};
 ghost use Rattle.valuing.specs.Block.{blockAnswer, answerNumbers, BlockDemand3};
-use crate::Answer;
-use crate::Outcome;
 use crate::valuation::value_well_formed;
+use answers::Answer;
+use answers::Outcome;
 use blocks::read_block;
 use refusals::Verdict;
 

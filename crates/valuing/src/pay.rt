@@ -5,15 +5,15 @@ ghost use Prim.Native.Nat.{_+_, _≤_, _<_, _^_, max};
 ghost use Rattle.refusals.specs.declared.Refusal.the-variants.{Negative};
 ghost use Rattle.cases.specs.Form.{rangeFault};
 ghost use Rattle.sums.specs.Rows.{factorsOf};
-ghost use Rattle.sums.specs.Sum.{negative};
+ghost use Rattle.sums.specs.Sum.{negativeFault};
 ghost use Rattle.sums.specs.Payment as payment;
-ghost use Rattle.valuing.specs.Answer.{itemsOf};
+ghost use Rattle.answers.specs.Answer.{itemsOf};
 ghost use Rattle.valuing.specs.Totals.{TotalsBelow};
-use crate::Items;
-use crate::Outcome;
 use crate::sum::Rest;
 use crate::sum::Totals;
 use crate::sum::take_off;
+use answers::Items;
+use answers::Outcome;
 use cases::Case;
 use cases::rules_of;
 use cases::transfer_flag;
@@ -67,7 +67,7 @@ fn pay(c: Case, gross: u64) -> u64
 // The payment with its items, or refusal 14.
 pub(crate) fn priced(c: Case, t: Totals) -> Outcome
     requires { ⌜ (rangeFault c ≡ false) × TotalsBelow c 4 t ⌝ }
-    ensures { λ r. ⌜ r ≡ cond (negative (factorsOf c) c) (Outcome.Refused Negative) (Outcome.Paid (itemsOf c)) ⌝ }
+    ensures { λ r. ⌜ r ≡ cond (negativeFault (factorsOf c) c) (Outcome.Refused Negative) (Outcome.Paid (itemsOf c)) ⌝ }
 {
     match take_off(t.pension + t.lump + t.survivor, t.deduction) {
         Rest::Below => Outcome::Refused(Refusal::Negative),

@@ -2,18 +2,16 @@
 ghost use mathlib.Core.Path.{_≡_};
 ghost use Rattle.refusals.specs.Tests.{first};
 ghost use Rattle.cases.specs.Form.{WellFormed};
-ghost use Rattle.valuing.specs.Answer.{amountTests, outcomeBy, answerOf, outcomeNumbers};
-ghost use Rattle.valuing.specs.Compare.{Demand3};
-use crate::Outcome;
+ghost use Rattle.answers.specs.Answer.{amountTests, outcomeBy, answerOf, outcomeNumbers};
+ghost use Rattle.answers.specs.Compare.{Demand3};
 use crate::pay::priced;
 use crate::sum::case_totals;
+use answers::Outcome;
 use cases::Case;
 use cases::form_verdict;
-use entitlement::dates_verdict;
 use entitlement::entitlement_verdict;
 use refusals::Refusal;
 use refusals::Verdict;
-use refusals::or_else;
 use refusals::refuse_if;
 
 // The first of refusals 12 to 14 that applies, or the payment.
@@ -34,7 +32,7 @@ pub(crate) fn value_well_formed(c: Case) -> Outcome
     requires { ⌜ WellFormed c ⌝ }
     ensures { λ r. ⌜ r ≡ answerOf c ⌝ }
 {
-    match or_else(dates_verdict(c), entitlement_verdict(c)) {
+    match entitlement_verdict(c) {
         Verdict::Refused(why) => Outcome::Refused(why),
         Verdict::Passed => value_amounts(c),
     }

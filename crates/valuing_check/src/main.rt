@@ -3,14 +3,14 @@
 // width of its field, and the case is valued as it stands, without reading a block. Prints a line for each: its place from
 // 1, the case number, and the payment with its items as whole numbers (payment, underpin and AVC in pence, the others in
 // hundredths of a penny) or the refusal.
+use answers::Items;
+use answers::Outcome;
 use calendar::Date;
 use cases::Case;
 use cases::Line;
 use libc::STDIN_FILENO;
 use libc::STDOUT_FILENO;
 use refusals::Refusal;
-use valuing::Items;
-use valuing::Outcome;
 
 fn u8_of(n: u64) -> u8 {
     (n % 256) as u8

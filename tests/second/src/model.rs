@@ -111,7 +111,7 @@ pub fn age(birth: Date, on: Date) -> i64 {
     (1..).take_while(|&n| moved_on(birth, n) <= today).count() as i64
 }
 
-/// The fewest years by which `from` must move on so as not to stand before `to`.
+/// The fewest years after which `from`, moved on, no longer stands before `to`.
 pub fn years_ahead(from: Date, to: Date) -> i64 {
     let target = day_number(to);
     (0..).find(|&n| moved_on(from, n) >= target).unwrap()
@@ -171,7 +171,7 @@ pub fn date_at(block: &[u8], offset: usize) -> Date {
     date(number_at(block, offset, 2) as i64, block[offset + 2] as i64, block[offset + 3] as i64)
 }
 
-/// The sum over bytes 0 to 507 of position plus one times the byte.
+/// The check: every byte before it, times its position counted from 1, summed.
 pub fn check_of(block: &[u8]) -> u64 {
     block[..at::CHECK].iter().zip(1u64..).map(|(&byte, weight)| weight * byte as u64).sum()
 }

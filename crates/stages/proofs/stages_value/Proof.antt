@@ -1,8 +1,8 @@
 -- `stages_value` meets its contract.
 -- Assumes nothing.
 use mathlib.Core.Path.{ap, _∙_}
-use Rattle.valuing.specs.Answer.{paid}
-use Rattle.valuing.specs.declared.Answer.{Answer}
+use Rattle.answers.specs.Answer.{paid}
+use Rattle.answers.specs.declared.Answer.{Answer}
 use borrow.Author.Needs.{needs}
 use Rattle.stages.proofs.stages_value.Statement.{statement}
 use Rattle.stages.proofs.stages_value.Tie as tie

@@ -1,19 +1,26 @@
--- `main` is safe and ends: while something is wanted, less is left to read.
+-- `main` is safe and ends: while something is wanted, less is left to read. And while it goes on, there are bytes done of which what
+-- was written so far, with what is to be written next, is the report.
 -- Assumes nothing.
 use Prim.Native.Nat.{ℕ, _+_, _≤_, _<_, min}
 use mathlib.Core.Bool.{Bool, true, false, _&&_}
+use mathlib.Core.List.{List, [], _++_}
 use mathlib.Core.Path.{_≡_, ap}
 use native.Mathlib.Omega.{arith}
 use lib.Dec.{ltb}
+use lib.ListN.{take}
 use borrow.Author.Tests.{ltb-true}
 use borrow.Author.Needs.{needs}
 use Rattle.runs.specs.Run.{left}
+use Rattle.runs.specs.Steps.{Reported}
 use Rattle.runs.specs.declared.Progress.{Progress}
 use Rattle.values.proofs.main.Statement.{statement}
 use Rattle.values.proofs.main.Tie as tie
 
+abbrev Going : Progress → List ℕ → Type 0
+Going run out = (done : List ℕ) × ((written : List ℕ) × Reported done (run .counts) (written ++ take (run .length) out))
+
 abbrev Inv-loop : tie.InvT-loop
-Inv-loop input₀ out₀ run₀ input out run = (run .wanted ≤ 65536) × (run .length ≤ 33024)
+Inv-loop input₀ out₀ run₀ input out run = ((run .wanted ≤ 65536) × (run .length ≤ 33024)) × (0 < run .wanted → Going run out)
 
 abbrev μ-loop : tie.MeasureT-loop
 μ-loop input₀ out₀ run₀ input out run = left (run .counts) + min 1 (run .wanted)
@@ -22,7 +29,7 @@ loop-holds : tie.Need-loop-holds Inv-loop μ-loop
 loop-holds c =
     let l : c .start .result .length ≡ 16 = ap (λ (p : Progress). p .length) (c .start .ensures .0) in
     let w : c .start .result .wanted ≡ 65536 = ap (λ (p : Progress). p .wanted) (c .start .ensures .0) in
-    (omega arith, omega arith)
+    ((omega arith, omega arith), λ more. ([], ([], c .start .ensures .1 .1)))
 
 more : (written : Bool) (wanted : ℕ) → (written && ltb 0 wanted) ≡ true → 0 < wanted
 more true wanted h = ltb-true 0 wanted h
@@ -36,6 +43,16 @@ loop-less c =
     let step = c .step in
     omega (arith, more (write .result) (loop .run .wanted) (if1 .taken), step .ensures .1 .1 .1 .1)
 
+loop-again : tie.Need-loop-again Inv-loop μ-loop
+loop-again c =
+    let loop = c .before .before .before .before .before .before .before .before .before .loop in
+    let write = c .before .before .before .before .before .before .before .write in
+    let if1 = c .before .before .before .before .before .if1 in
+    let step = c .step in
+    let going = loop .inv .1 (more (write .result) (loop .run .wanted) (if1 .taken)) in
+    let text : List ℕ = going .1 .0 ++ take (loop .run .length) (loop .out) in
+    (step .ensures .1 .1 .1 .0, λ wanted. (_, (text, step .ensures .1 .1 .0 .going (going .0) text (going .1 .1) wanted)))
+
 pub main-spec : {M : Type 1} → statement M
 main-spec =
     tie.close
@@ -48,5 +65,5 @@ main-spec =
     (λ c κs. search needs)
     (λ c κs. search needs)
     loop-less
-    (λ c. c .step .ensures .1 .1 .1 .0)
+    loop-again
     (λ c. search needs))

@@ -13,11 +13,11 @@ checksum-requires : tie.Need-checksum-requires
 checksum-requires c κs = search needs
 
 returns : tie.Need-returns
-unfolding block.checkOf
+unfolding block.checksumOrZero
 returns c = rw (lt-ltb (length (now (c .before .before .args .b))) 508 (omega arith))
 
 returns-2 : tie.Need-returns-2
-unfolding block.checkOf
+unfolding block.checksumOrZero
 returns-2 c = rw (le-ltb (length (now (c .before .before .before .args .b))) 508 (omega arith)) (c .checksum .ensures)
 
 pub block-checksum-spec : {M : Type 1} → statement M

@@ -9,7 +9,7 @@ use borrow.Author.Needs.{needs}
 use Rattle.buffers.proofs.Writing.{from-start}
 use Rattle.runs.specs.Run.{wantedAfter}
 use Rattle.runs.specs.Steps.{kept}
-use Rattle.runs.proofs.Steps.{front, step-made, step-adds, left-less, wanted-small}
+use Rattle.runs.proofs.Steps.{front, step-made, step-continues, left-less, wanted-small}
 use Rattle.runs.proofs.run.step.Statement.{statement}
 use Rattle.runs.proofs.run.step.Tie as tie
 
@@ -43,7 +43,7 @@ returns c =
       (
         rw (s .0) (s .1),
         (
-          step-adds t input (args .got) (args .failed) size (m .0) (m .1 .0) (front _ _ (s .0) (s .1)),
+          step-continues t input (args .got) (args .failed) size (m .0) (m .1 .0) (front _ _ (s .0) (s .1)),
           ((omega (arith, wanted-small t input (args .got) (args .failed) size, m .1 .0), omega (arith, m .1 .1 .room)), rw (m .0, m .1 .0) (left-less t input (args .got) (args .failed) size)),
         ),
       ),

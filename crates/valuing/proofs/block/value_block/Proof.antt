@@ -4,12 +4,13 @@ use mathlib.Core.List.{List}
 use mathlib.Core.Path.{_≡_, sym, ap, _∙_}
 use Prim.Native.Nat.{ℕ}
 use denote.Ref.{now}
+use Rattle.blocks.specs.Reading.{readingOf}
 use Rattle.blocks.specs.declared.Reading.{Reading}
 use Rattle.blocks.proofs.Order.{read-well-formed}
 use Rattle.valuing.specs.Block.{blockAnswer, answerNumbers, BlockDemand3}
-use Rattle.valuing.specs.declared.Answer.{Answer}
-use Rattle.valuing.specs.declared.Outcome.the-variants.{Refused}
-use Rattle.valuing.proofs.Comparison.{block-demand3}
+use Rattle.answers.specs.declared.Answer.{Answer}
+use Rattle.answers.specs.declared.Outcome.the-variants.{Refused}
+use Rattle.answers.proofs.Comparison.{demand3}
 use borrow.Author.Needs.{needs}
 use Rattle.valuing.proofs.block.value_block.Statement.{statement}
 use Rattle.valuing.proofs.block.value_block.Tie as tie
@@ -24,7 +25,8 @@ value-well-formed-requires c κs =
 -- the answer gives its numbers and demand 3
 promised :
     (s : List ℕ) (a : Answer) → a ≡ blockAnswer s → (a ≡ blockAnswer s) × ((answerNumbers a ≡ answerNumbers (blockAnswer s)) × BlockDemand3 s a)
-promised s a e = (e, (ap answerNumbers e, block-demand3 s a e))
+unfolding blockAnswer
+promised s a e = (e, (ap answerNumbers e, λ read. rw (e, read) (demand3 (readingOf s .case))))
 
 returns : tie.Need-returns
 unfolding blockAnswer

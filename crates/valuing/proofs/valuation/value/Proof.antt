@@ -5,11 +5,11 @@ use Rattle.refusals.proofs.Order.{first-none}
 use mathlib.Core.Bool.{false}
 use Rattle.cases.specs.Form.{formTests}
 use Rattle.cases.specs.declared.Case.{Case}
-use Rattle.valuing.specs.Answer.{answerOf, outcomeNumbers}
-use Rattle.valuing.specs.Compare.{Demand3}
-use Rattle.valuing.specs.declared.Outcome.{Outcome}
+use Rattle.answers.specs.Answer.{answerOf, outcomeNumbers}
+use Rattle.answers.specs.Compare.{Demand3}
+use Rattle.answers.specs.declared.Outcome.{Outcome}
 use Rattle.valuing.proofs.Stages.{by-form}
-use Rattle.valuing.proofs.Comparison.{demand3}
+use Rattle.answers.proofs.Comparison.{demand3}
 use borrow.Author.Needs.{needs}
 use Rattle.valuing.proofs.valuation.value.Statement.{statement}
 use Rattle.valuing.proofs.valuation.value.Tie as tie

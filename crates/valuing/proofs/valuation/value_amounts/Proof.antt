@@ -3,7 +3,7 @@
 use mathlib.Core.Path.{_≡_, sym, _∙_}
 use Rattle.refusals.specs.Tests.{first}
 use Rattle.sums.specs.Sum.{schemePaysFault}
-use Rattle.valuing.specs.Answer.{factorFault}
+use Rattle.answers.specs.Answer.{factorFault}
 use Rattle.valuing.proofs.Stages.{in-range, earlier, by-earlier, by-total}
 use borrow.Author.Needs.{needs}
 use Rattle.valuing.proofs.valuation.value_amounts.Statement.{statement}

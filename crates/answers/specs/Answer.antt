@@ -13,12 +13,12 @@ use Rattle.cases.specs.Form.{formTests}
 use Rattle.cases.specs.declared.Case.{Case}
 use Rattle.factors.specs.Rows.{absent}
 use Rattle.sums.specs.Rows.{rowOf, factorsOf}
-use Rattle.sums.specs.Sum.{memberPension, lumpSum, survivorPension, item, deduction, negative, grossBy, schemePaysFault}
+use Rattle.sums.specs.Sum.{memberPension, lumpSum, survivorPension, item, deduction, negativeFault, grossBy, schemePaysFault}
 use Rattle.sums.specs.Payment.{underpin, payment}
-use Rattle.entitlement.specs.Entitlement.{datesTests, entitlementTests}
-use Rattle.valuing.specs.declared.Items.{Items}
-use Rattle.valuing.specs.declared.Outcome.{Outcome}
-use Rattle.valuing.specs.declared.Outcome.the-variants.{Paid, Refused}
+use Rattle.entitlement.specs.Entitlement.{entitlementTests}
+use Rattle.answers.specs.declared.Items.{Items}
+use Rattle.answers.specs.declared.Outcome.{Outcome}
+use Rattle.answers.specs.declared.Outcome.the-variants.{Paid, Refused}
 
 -- 12 factor: no row
 unfoldable pub factorFault : Case → Bool
@@ -29,11 +29,11 @@ abbrev pub amountTests : Case → List Test
 amountTests c =
     (factorFault c gives Factor) ∷
     (schemePaysFault c gives Debit) ∷
-    (negative (factorsOf c) c gives Negative) ∷ []
+    (negativeFault (factorsOf c) c gives Negative) ∷ []
 
--- valuing's refusals in their order, stage after stage: the case's form, its dates, the member's entitlement, the amounts
+-- valuing's refusals in their order, stage after stage: the case's form, the member's entitlement, the amounts
 unfoldable pub tests : Case → List Test
-tests c = formTests false c ++ datesTests c ++ entitlementTests c ++ amountTests c
+tests c = formTests false c ++ entitlementTests c ++ amountTests c
 
 -- the gross value, from the case alone
 unfoldable pub grossOf : Case → ℕ

@@ -10,9 +10,9 @@ use Rattle.cases.specs.declared.Line.{Line}
 use Rattle.cases.specs.declared.Case.{Case}
 use Rattle.sums.specs.Rows.{factorsOf}
 use Rattle.sums.specs.Sum.{Benefit, memberPension, survivorPension, revalued, reduced, factor, credit, deduction}
-use Rattle.valuing.specs.declared.Outcome.{Outcome}
-use Rattle.valuing.specs.declared.Outcome.the-variants.{Paid, Refused}
-use Rattle.valuing.specs.Answer.{grossOf, answerOf}
+use Rattle.answers.specs.declared.Outcome.{Outcome}
+use Rattle.answers.specs.declared.Outcome.the-variants.{Paid, Refused}
+use Rattle.answers.specs.Answer.{grossOf, answerOf}
 
 -- what a row shows: numbers; of a case that is paid its gross value and payment in pence, of another the refusal's number
 pub data Shown : Type 0 where
@@ -28,7 +28,7 @@ outcomeShown c (Refused r) = refused (numberOf r)
 abbrev pub answered : Case → Shown
 answered c = outcomeShown c (answerOf c)
 
--- the signed total of step 4 before its rounding, in hundredths of a penny
+-- the total of step 4 before its rounding, where it is not below zero, in hundredths of a penny
 abbrev pub totalOf : Case → Shown
 totalOf c = number (credit (factorsOf c) c - deduction (factorsOf c) c)
 

@@ -12,9 +12,9 @@ use Rattle.cases.specs.declared.Case.{Case}
 use Rattle.sums.specs.Rows.{factorsOf}
 use Rattle.sums.specs.Sum.{Benefit, memberPension, lumpSum, survivorPension, factor}
 use Rattle.sums.specs.Payment.{payment}
-use Rattle.valuing.specs.declared.Outcome.{Outcome}
-use Rattle.valuing.specs.declared.Outcome.the-variants.{Paid}
-use Rattle.valuing.specs.Answer.{Accepted, answerOf, itemsOf, grossOf, paid}
+use Rattle.answers.specs.declared.Outcome.{Outcome}
+use Rattle.answers.specs.declared.Outcome.the-variants.{Paid}
+use Rattle.answers.specs.Answer.{Accepted, answerOf, itemsOf, grossOf, paid}
 
 -- what an entry is to the sum: it adds to a benefit on a line, or it is taken off; of any other nothing is promised
 pub data Role : Type 0 where

@@ -4,8 +4,8 @@ use mathlib.Core.Path.{_≡_, ap}
 use Rattle.refusals.proofs.Order.{none-first}
 use Rattle.cases.specs.declared.Case.{Case}
 use Rattle.sums.specs.Payment.{payment}
-use Rattle.valuing.specs.declared.Outcome.the-variants.{Paid}
-use Rattle.valuing.specs.Answer.{Accepted, tests, grossOf, itemsOf, answerOf, paid}
+use Rattle.answers.specs.declared.Outcome.the-variants.{Paid}
+use Rattle.answers.specs.Answer.{Accepted, tests, grossOf, itemsOf, answerOf, paid}
 
 pub accepted-paid : (c : Case) → Accepted c → answerOf c ≡ Paid (itemsOf c)
 unfolding answerOf

@@ -2,19 +2,17 @@
 -- Assumes nothing.
 use Prim.Native.Nat.{ℕ, _+_, _-_, _≤_, _<_}
 use mathlib.Core.Bool.{Bool, true, false, cond}
-use mathlib.Core.List.{List}
 use mathlib.Core.Path.{_≡_, refl, sym, fun-ext}
 use native.Mathlib.Decide.{ℕ-discrete}
 use native.Mathlib.Omega.{arith}
 use lib.Dec.{ltb}
-use borrow.Author.Tests.{ltb-true}
-use Rattle.numbers.specs.Lists.{every, Each}
-use Rattle.numbers.proofs.Lists.{each}
+use borrow.Author.Tests.{ltb-true, lt-ltb}
+use Rattle.numbers.specs.Lists.{Each}
+use Rattle.numbers.proofs.Lists.{each, of-listed}
 use Rattle.cases.specs.Layout as layout
 use Rattle.cases.specs.Layout.{Head, Amount, amount-discrete, Entry, head, date, amount, amounts}
 use Rattle.cases.specs.Entries.{line, headIn, amountIn, held, AlikeBut}
-use Rattle.cases.proofs.Entries.{same-line}
-use Rattle.blocks.specs.Reading.{readingOf}
+use Rattle.cases.proofs.Entries.{same-line, amount-listed}
 use Rattle.cases.specs.declared.Line.{Line}
 use Rattle.cases.specs.declared.Case.{Case}
 use Rattle.refusals.proofs.Order.{none-given}
@@ -23,15 +21,13 @@ use Rattle.sums.specs.Rows.{rowOf, factorsOf}
 use Rattle.sums.specs.Payment.{underpin, payment}
 use Rattle.sums.proofs.Order.{NoWorse, no-worse-same, gross-mono, payment-mono}
 use Rattle.sums.proofs.Near.{Raised, raised-no-worse, gross-near}
-use Rattle.valuing.specs.Answer.{Accepted, tests, grossOf, answerOf, paid}
-use Rattle.valuing.specs.Compare.{Role, adds, taken, other, roleOnLine, promised, roleOf, Compared, Demand3}
-use Rattle.valuing.specs.Block.{blockAnswer, BlockDemand3}
-use Rattle.valuing.specs.declared.Answer.{Answer}
-use Rattle.valuing.proofs.Acceptance.{accepted-paid, accepted-payment}
+use Rattle.answers.specs.Answer.{Accepted, tests, grossOf, answerOf, paid}
+use Rattle.answers.specs.Compare.{Role, adds, taken, other, roleOnLine, promised, roleOf, Compared, Demand3}
+use Rattle.answers.proofs.Acceptance.{accepted-paid, accepted-payment}
 
--- no amount of a line is of a role of which nothing is promised
-pub all-promised : (i : ℕ) → every (λ a. promised (roleOnLine i a)) amounts ≡ true
-all-promised i = refl
+-- of each amount of each line something is promised
+pub all-promised : (i : ℕ) (a : Amount) → i < 4 → promised (roleOf (amount i a)) ≡ true
+all-promised i a h = rw (lt-ltb i 4 h) (of-listed amount-discrete (λ b. promised (roleOnLine i b)) a amounts (amount-listed a) refl)
 
 -- the pence that amount b of a line grows by, where amount a grows by e
 abbrev gain : {a b : Amount} → Dec (a ≡ b) → ℕ → ℕ
@@ -151,7 +147,3 @@ demand3 c = record {
   payable = λ m. (accepted-paid c m, accepted-payment c m);
   compared = λ e d s alike m n p o. rw p (compare e c d alike m n o);
 }
-
-pub block-demand3 : (s : List ℕ) (a : Answer) → a ≡ blockAnswer s → BlockDemand3 s a
-unfolding blockAnswer
-block-demand3 s a e read = rw (e, read) (demand3 (readingOf s .case))

@@ -1,0 +1,3 @@
+pub mod Acceptance
+pub mod Comparison
+pub mod Figures
