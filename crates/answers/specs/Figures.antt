@@ -2,9 +2,11 @@
 -- Assumes nothing.
 use Prim.Native.Nat.{ℕ, _-_}
 use mathlib.Core.List.{List, [], _∷_}
+use mathlib.Core.Logic.{ite}
 use Rattle.calendar.specs.Moving.{age, yearsAhead}
 use Rattle.calendar.specs.declared.Date.{Date}
-use Rattle.cases.specs.Entries.{lineBy, line, ageOf}
+use Rattle.cases.specs.Layout.{Amount, amount-discrete, pension, additional, survivor, dependant, lump, modification, schemePays}
+use Rattle.cases.specs.Entries.{lineWith, lineBy, line, ageOf}
 use Rattle.refusals.specs.Refusals.{numberOf}
 use Rattle.cases.specs.declared.Line.{Line}
 use Rattle.cases.specs.declared.Case.{Case}
@@ -66,39 +68,43 @@ member kind birth leaving guarantee revaluation first =
       lines = first ∷ none ∷ none ∷ none ∷ [];
     }
 
--- a line in the block's order: date, pension, additional pension, survivor's pension, dependant's additional pension,
--- lump sum, modification, Scheme Pays on the pension; none on the lump sum
-abbrev pub lineOf : Date → ℕ → ℕ → ℕ → ℕ → ℕ → ℕ → ℕ → Line
-lineOf date pension additional survivor dependant lump modification schemePays =
-    record {
-      date = date;
-      pension = pension;
-      additional = additional;
-      survivor = survivor;
-      dependant = dependant;
-      lump = lump;
-      modification = modification;
-      «scheme_pays» = schemePays;
-      «scheme_pays_lump» = 0;
-    }
+-- an amount of a line
+pub record Filled : Type 0 where
+  pub pence : ℕ
+  pub name : Amount
+
+infix 70 _of_
+abbrev pub _of_ : ℕ → Amount → Filled
+_of_ n a = record { pence = n; name = a }
+
+-- a line of the amounts that are named; the others are 0
+abbrev pub among : List Filled → Amount → ℕ
+among [] a = 0
+among (x ∷ xs) a = ite (amount-discrete a (x .name)) (x .pence) (among xs a)
+
+abbrev pub lineOf : Date → List Filled → Line
+lineOf d some = lineWith d (among some)
 
 -- Example A of 001
 abbrev pub exampleA : Case
 exampleA =
     member 1 (date 1 6 1967) (date 1 4 2012) (date 1 2 2020) 11400
-    (lineOf (date 0 0 0) 500000 100000 250000 37500 1500000 2000 0)
+    (lineOf (date 0 0 0)
+    (500000 of pension ∷ 100000 of additional ∷ 250000 of survivor ∷ 37500 of dependant ∷ 1500000 of lump ∷ 2000 of modification ∷ []))
 
 -- Example C of 003
 abbrev pub exampleC : Case
 exampleC =
     member 2 (date 1 11 1952) (date 1 11 2015) (date 1 2 2016) 10496
-    (lineOf (date 1 11 2017) 350000 0 118125 0 0 0 0)
+    (lineOf (date 1 11 2017) (350000 of pension ∷ 118125 of survivor ∷ []))
 
--- kind 1, age 54, no revaluation: a pension, a survivor's pension, a modification and Scheme Pays
-abbrev pub aged54 : ℕ → ℕ → ℕ → ℕ → Case
-aged54 pension survivor modification schemePays =
-    member 1 (date 1 6 1967) (date 1 4 2012) (date 1 6 2021) 10000
-    (lineOf (date 0 0 0) pension 0 survivor 0 0 modification schemePays)
+-- kind 1, age 54, no revaluation
+abbrev pub aged54 : List Filled → Case
+aged54 some = member 1 (date 1 6 1967) (date 1 4 2012) (date 1 6 2021) 10000 (lineOf (date 0 0 0) some)
+
+-- ten pence a year and a penny for the survivor, which come to 182p
+abbrev pub tenPence : Case
+tenPence = aged54 (10 of pension ∷ 1 of survivor ∷ [])
 
 -- one row: what is worked out, and what is stated
 pub record Figure : Type 0 where
@@ -117,9 +123,10 @@ figures =
     (amountOf memberPension exampleC ∷ factorOf memberPension exampleC ∷
     amountOf survivorPension exampleC ∷ factorOf survivorPension exampleC ∷ answered exampleC ∷ []
     is number 367360 ∷ number 1665 ∷ number 123984 ∷ number 160 ∷ paid 6314918 6314918 ∷ []) ∷
-    (number (ageOf (aged54 10 1 0 0)) ∷ answered (aged54 10 1 0 0) ∷ [] is number 54 ∷ paid 182 200 ∷ []) ∷
-    (answered (aged54 100 0 0 100) ∷ answered (aged54 100 0 0 101) ∷ [] is paid 0 0 ∷ refused 13 ∷ []) ∷
-    (answered (aged54 0 0 1 0) ∷ [] is refused 14 ∷ []) ∷
+    (number (ageOf tenPence) ∷ answered tenPence ∷ [] is number 54 ∷ paid 182 200 ∷ []) ∷
+    (answered (aged54 (100 of pension ∷ 100 of schemePays ∷ [])) ∷ answered (aged54 (100 of pension ∷ 101 of schemePays ∷ [])) ∷ []
+    is paid 0 0 ∷ refused 13 ∷ []) ∷
+    (answered (aged54 (1 of modification ∷ [])) ∷ [] is refused 14 ∷ []) ∷
     (number (age (date 1 6 1967) (date 31 5 2020)) ∷ number (age (date 1 6 1967) (date 1 6 2020)) ∷ [] is number 52 ∷ number 53 ∷ []) ∷
     (number (yearsAhead (date 3 7 2021) (date 3 7 2047)) ∷ number (yearsAhead (date 3 7 2021) (date 4 7 2047)) ∷ []
     is number 26 ∷ number 27 ∷ []) ∷ []

@@ -1,15 +1,16 @@
 -- The case that a block holds, its checksum, and the bytes that no field names.
 -- Assumes nothing.
-use Prim.Native.Nat.{ℕ, zero, suc, _+_, _-_, _*_, _/_}
+use Prim.Native.Nat.{ℕ, zero, suc, _+_, _*_}
 use mathlib.Core.Bool.{Bool, cond, not}
 use mathlib.Core.List.{List, [], _∷_}
+use mathlib.Core.Logic.{ite}
 use lib.Dec.{eqb, ltb}
 use lib.ListN.{length, getD}
 use Rattle.numbers.specs.Below.{sumBelow, anyBelow}
 use Rattle.numbers.specs.Lists.{any}
 use Rattle.buffers.specs.Bytes.{numberAt}
 use Rattle.calendar.specs.declared.Date.{Date}
-use Rattle.cases.specs.Layout.{pension, amountAt, Field, place, layout, gaps}
+use Rattle.cases.specs.Layout.{Amount, amount-discrete, amounts, Field, place, layout, gaps}
 use Rattle.cases.specs.Entries.{lineWith, caseBy}
 use Rattle.cases.specs.declared.Line.{Line}
 use Rattle.cases.specs.declared.Case.{Case}
@@ -41,7 +42,12 @@ nonzero s f = anyBelow (f .width) (λ i. not (eqb (getD s (f .offset + i) 0) 0))
 unfoldable pub unnamedFault : List ℕ → Bool
 unnamedFault s = any (nonzero s) (gaps 0 512 layout)
 
--- No promise of a public function speaks of the next two: the code reads a group of amounts at a time.
+-- No promise of a public function speaks of what follows: the code reads a group of amounts at a time.
+-- how many members of a list stand before an amount
+abbrev pub placeIn : Amount → List Amount → ℕ
+placeIn a [] = 0
+placeIn a (b ∷ bs) = ite (amount-discrete a b) 0 (suc (placeIn a bs))
+
 -- n amounts that stand one after the other from position p on
 unfoldable pub amountsFrom : ℕ → List ℕ → ℕ → List ℕ
 amountsFrom zero s p = []
@@ -49,4 +55,4 @@ amountsFrom (suc n) s p = numberAt 8 s p ∷ amountsFrom n s (p + 8)
 
 -- the line of a date and of amounts in block order
 abbrev pub lineInOrder : Date → List ℕ → Line
-lineInOrder d n = lineWith d (λ a. getD n ((amountAt 0 a - amountAt 0 pension) / 8) 0)
+lineInOrder d n = lineWith d (λ a. getD n (placeIn a amounts) 0)

@@ -25,16 +25,24 @@ fn put_date(out: &mut [u8], at: usize, d: Date) -> usize {
     put_after(out, month, b"-", d.day as u64)
 }
 
-fn put_line(out: &mut [u8], at: usize, l: Line) -> usize {
-    let date = put_date(out, at, l.date);
-    let pension = put_field(out, date, l.pension);
+fn put_benefits(out: &mut [u8], at: usize, l: Line) -> usize {
+    let pension = put_field(out, at, l.pension);
     let additional = put_field(out, pension, l.additional);
     let survivor = put_field(out, additional, l.survivor);
     let dependant = put_field(out, survivor, l.dependant);
-    let lump = put_field(out, dependant, l.lump);
-    let modification = put_field(out, lump, l.modification);
+    put_field(out, dependant, l.lump)
+}
+
+fn put_debits(out: &mut [u8], at: usize, l: Line) -> usize {
+    let modification = put_field(out, at, l.modification);
     let scheme_pays = put_field(out, modification, l.scheme_pays);
     put_field(out, scheme_pays, l.scheme_pays_lump)
+}
+
+fn put_line(out: &mut [u8], at: usize, l: Line) -> usize {
+    let date = put_date(out, at, l.date);
+    let benefits = put_benefits(out, date, l);
+    put_debits(out, benefits, l)
 }
 
 fn put_lines(out: &mut [u8], at: usize, lines: [Line; 4]) -> usize {

@@ -1,38 +1,24 @@
--- The rows of the kinds.
+-- The rows of the kinds: what one test that antt computes over all of them gives of any kind.
 -- Assumes nothing.
-use Prim.Native.Nat.{ℕ, _≤_}
-use mathlib.Core.Bool.{Bool, true, false, cond}
-use mathlib.Core.Path.{_≡_}
+use Prim.Native.Nat.{ℕ, zero, suc, _≤_, _<_}
+use mathlib.Core.Path.{_≡_, refl, sym}
 use native.Mathlib.Omega.{arith}
-use lib.Dec.{eqb}
-use borrow.Author.Tests.{ne-eqb}
-use Rattle.cases.specs.Kinds.{section1995, scheme2015, noKind, rulesOf}
-use Rattle.cases.specs.declared.Rules.{Rules}
+use lib.Dec.{leb}
+use lib.ListN.{length, List·getD-eq-default}
+use borrow.Author.Tests.{leb-true}
+use Rattle.numbers.proofs.Lists.{every-at}
+use Rattle.cases.specs.Kinds.{noKind, kinds, rulesOf}
 
-pub row-1 : (k : ℕ) → k ≡ 1 → section1995 ≡ rulesOf k
+-- a kind that is none of those listed
+pub no-row : (k : ℕ) → (0 < k → length kinds ≤ k) → noKind ≡ rulesOf k
 unfolding rulesOf
-row-1 k e = rw e
-
-pub row-2 : (k : ℕ) → k ≡ 2 → scheme2015 ≡ rulesOf k
-unfolding rulesOf
-row-2 k e = rw e
-
-pub no-row : (k : ℕ) → (k ≡ 1 → ⊥) → (k ≡ 2 → ⊥) → noKind ≡ rulesOf k
-unfolding rulesOf
-no-row k p q = rw (ne-eqb k 1 p, ne-eqb k 2 q)
-
--- what holds of every row holds of the row of any kind
-by-rows : (P : Rules → Type 0) → P section1995 → P scheme2015 → P noKind → (k : ℕ) → P (rulesOf k)
-unfolding rulesOf
-by-rows P one two none k = go (eqb k 1) (eqb k 2)
-  where
-    go : (s t : Bool) → P (cond s section1995 (cond t scheme2015 noKind))
-    go true t = one
-    go false true = two
-    go false false = none
+no-row zero past = refl
+no-row (suc k) past = sym (List·getD-eq-default kinds noKind (past (omega arith)))
 
 pub four-lines : (k : ℕ) → rulesOf k .lines ≤ 4
-four-lines = by-rows (λ r. r .lines ≤ 4) (omega arith) (omega arith) (omega arith)
+unfolding rulesOf
+four-lines = every-at {P = λ r. r .lines ≤ 4} (λ r. leb (r .lines) 4) kinds noKind (λ r. leb-true (r .lines) 4) (omega arith) refl
 
 pub unit-small : (k : ℕ) → rulesOf k .unit ≤ 100
-unit-small = by-rows (λ r. r .unit ≤ 100) (omega arith) (omega arith) (omega arith)
+unfolding rulesOf
+unit-small = every-at {P = λ r. r .unit ≤ 100} (λ r. leb (r .unit) 100) kinds noKind (λ r. leb-true (r .unit) 100) (omega arith) refl

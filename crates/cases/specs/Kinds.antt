@@ -1,10 +1,11 @@
 -- What sets the kinds of case apart: one row to a kind, which the refusals, the choice of factors and step 5 of the sum go by.
 -- Assumes nothing.
 use Prim.Native.Nat.{ℕ}
-use mathlib.Core.Bool.{true, false, cond}
-use lib.Dec.{eqb}
+use mathlib.Core.Bool.{true, false}
+use mathlib.Core.List.{List, [], _∷_}
+use lib.ListN.{getD}
+use Rattle.factors.specs.declared.Table.the-variants.{Section1995, Scheme2015, NoTable}
 use Rattle.cases.specs.declared.Rules.{Rules}
-use Rattle.cases.specs.declared.Table.the-variants.{Section1995, Scheme2015, NoTable}
 
 -- kind 1: the 1995 section with pension age 60, paid in whole pounds
 abbrev pub section1995 : Rules
@@ -48,5 +49,9 @@ noKind =
       unit = 0;
     }
 
+-- the rows by their kinds, from 0
+abbrev pub kinds : List Rules
+kinds = noKind ∷ section1995 ∷ scheme2015 ∷ []
+
 unfoldable pub rulesOf : ℕ → Rules
-rulesOf kind = cond (eqb kind 1) section1995 (cond (eqb kind 2) scheme2015 noKind)
+rulesOf kind = getD kinds kind noKind

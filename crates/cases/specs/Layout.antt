@@ -81,11 +81,12 @@ heads =
 abbrev pub amounts : List Amount
 amounts = pension ∷ additional ∷ survivor ∷ dependant ∷ lump ∷ modification ∷ schemePays ∷ schemePaysLump ∷ []
 
-abbrev pub entriesOfLine : ℕ → List Entry
-entriesOfLine i = date i ∷ map (amount i) amounts
+-- what stands for each line, one line after the other
+abbrev pub ofLines : (ℕ → List Entry) → List Entry
+ofLines e = e 0 ++ e 1 ++ e 2 ++ e 3
 
 abbrev pub entries : List Entry
-entries = map head heads ++ entriesOfLine 0 ++ entriesOfLine 1 ++ entriesOfLine 2 ++ entriesOfLine 3
+entries = map head heads ++ ofLines (λ i. date i ∷ map (amount i) amounts)
 
 -- the fields of the block in their order
 abbrev pub layout : List Field

@@ -2,7 +2,7 @@
 ghost use mathlib.Core.Path.{_≡_};
 ghost use Rattle.cases.specs.Kinds.{rulesOf};
 use crate::Rules;
-use crate::Table;
+use factors::Table;
 
 pub fn rules_of(kind: u16) -> Rules
     ensures { λ r. ⌜ r ≡ rulesOf kind ⌝ }

@@ -5,6 +5,7 @@ mod kinds;
 mod lines;
 
 use calendar::Date;
+use factors::Table;
 pub use flags::gmp_flag;
 pub use flags::transfer_flag;
 pub use form::form_verdict;
@@ -44,13 +45,6 @@ pub struct Case {
     pub lines: [Line; 4],
 }
 
-// The notes' table that holds a kind's factors.
-pub enum Table {
-    Section1995,
-    Scheme2015,
-    NoTable,
-}
-
 // What sets a kind of case apart.
 pub struct Rules {
     // The most lines that a case may have; it has at least one.
@@ -64,6 +58,7 @@ pub struct Rules {
     pub modification: bool,
     // The pension age where the lines are not dated.
     pub pension_age: u16,
+    // The notes' table that holds its factors.
     pub table: Table,
     // The gross value is rounded to a multiple of this many pence.
     pub unit: u64,

@@ -21,7 +21,7 @@ misplaced c i l = leb 1 i && ltb i (c .count) && not (before (l .date) (line c 0
 
 -- 6 dates: the member left before or on the day of birth, or after the guarantee date; where lines are dated, the first is dated
 -- before the 65th birthday, or another not before the first
-unfoldable pub datesFault : Case → Bool
+abbrev pub datesFault : Case → Bool
 datesFault c =
     not (before (c .birth) (c .leaving)) ||
     before (c .guarantee) (c .leaving) ||
@@ -31,7 +31,7 @@ datesFault c =
 abbrev pub newStatePension : Date
 newStatePension = record { year = 2016; month = 4; day = 6 }
 
-unfoldable pub referFault : Case → Bool
+abbrev pub referFault : Case → Bool
 referFault c = gmpFlag (c .flags) && before (c .«state_pension») newStatePension
 
 -- a line within the count that is dated on or before the guarantee date
@@ -39,7 +39,7 @@ abbrev pub reached : Case → ℕ → Line → Bool
 reached c i l = ltb i (c .count) && not (before (c .guarantee) (l .date))
 
 -- 11 age: where lines are dated, one of them has been reached; else the pension age has
-unfoldable pub ageFault : Case → Bool
+abbrev pub ageFault : Case → Bool
 ageFault c = cond (rulesOf (c .kind) .dated) (anyLine (reached c) c) (leb (rulesOf (c .kind) .«pension_age») (ageOf c))
 
 abbrev pub datesTests : Case → List Test

@@ -4,13 +4,14 @@ use Prim.Native.Nat.{ℕ}
 use mathlib.Core.List.{List, [], _∷_, map}
 use mathlib.Core.Path.{_≡_, refl}
 use Rattle.factors.specs.Rows.{rowNumbers}
-use Rattle.factors.specs.Tables.{section1995, scheme2015, rowAt, section1995Row, scheme2015Row}
+use Rattle.factors.specs.Tables.{section1995Table, scheme2015Table, rowAt, rowIn}
+use Rattle.factors.specs.declared.Table.the-variants.{Section1995, Scheme2015}
 
 abbrev section : ℕ → List ℕ
-section age = rowNumbers (section1995Row age)
+section age = rowNumbers (rowIn Section1995 age 0)
 
 abbrev scheme : ℕ → List ℕ
-scheme years = rowNumbers (scheme2015Row years)
+scheme years = rowNumbers (rowIn Scheme2015 0 years)
 
 -- 1995 at ages 21, 22, 52, 54, 59, 60; 2015 at 0, 2, 25, 51 years
 pub printed :
@@ -26,5 +27,5 @@ pub printed :
     (1 ∷ 1665 ∷ 0 ∷ 160 ∷ 0 ∷ []) ∷
     (1 ∷ 927 ∷ 0 ∷ 133 ∷ 0 ∷ []) ∷
     (0 ∷ []) ∷ [])
-unfolding section1995 scheme2015 rowAt section1995Row scheme2015Row
+unfolding section1995Table scheme2015Table rowAt rowIn
 printed = (refl, refl)

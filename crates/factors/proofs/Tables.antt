@@ -1,84 +1,73 @@
 -- The tables' counts and ranges: one test that antt computes over a whole table, and what follows of every row found.
 -- Assumes nothing.
-use Prim.Native.Nat.{ℕ, _+_, _-_, _≤_, _<_}
+use Prim.Native.Nat.{ℕ, _-_, _≤_, _<_}
 use native.Mathlib.Omega.{arith}
 use mathlib.Core.Bool.{Bool, true, false, cond, _&&_, and-eq-true-iff}
 use mathlib.Core.List.{List, []}
-use mathlib.Core.Path.{_≡_, refl}
+use mathlib.Core.Path.{_≡_, refl, ap}
 use lib.Dec.{eqb, leb, ltb}
 use lib.ListN.{length, getD}
-use borrow.Author.Tests.{leb-true, ltb-true}
+use borrow.Author.Tests.{leb-true, lt-ltb, le-leb, lt-leb, le-ltb}
 use Rattle.numbers.specs.Lists.{every}
 use Rattle.numbers.proofs.Lists.{every-at}
 use Rattle.factors.specs.declared.Factors.{Factors}
+use Rattle.factors.specs.declared.Row.{Row}
 use Rattle.factors.specs.declared.Row.the-variants.{Found, Absent}
-use Rattle.factors.specs.Rows.{section1995Factors, scheme2015Factors, found, rowNumbers, Small}
-use Rattle.factors.specs.Tables.{section1995, scheme2015, rowAt, section1995Row, scheme2015Row}
+use Rattle.factors.specs.declared.Table.{Table}
+use Rattle.factors.specs.declared.Table.the-variants.{Section1995, Scheme2015, NoTable}
+use Rattle.factors.specs.Rows.{factorsIn, found, rowNumbers, Small}
+use Rattle.factors.specs.Tables.{section1995Table, scheme2015Table, rowAt, rowIn}
 
 abbrev pub inRange : ℕ → Bool
-inRange n = leb 1 n && leb n 9999
+inRange n = leb n 9999
 
--- a row of so many numbers, each from 0.01 to 99.99
-abbrev pub rowFits : ℕ → List ℕ → Bool
-rowFits width row = eqb (length row) width && every inRange row
+-- a row of four numbers, none above 99.99
+abbrev pub rowFits : List ℕ → Bool
+rowFits row = eqb (length row) 4 && every inRange row
 
--- so many rows, each of so many numbers in range
-abbrev pub fits : ℕ → ℕ → List (List ℕ) → Bool
-fits rows width table = eqb (length table) rows && every (rowFits width) table
-
-pub section1995-fits : fits 38 4 section1995 ≡ true
-unfolding section1995
-section1995-fits = refl
-
-pub scheme2015-fits : fits 50 2 scheme2015 ≡ true
-unfolding scheme2015
-scheme2015-fits = refl
+-- so many rows, each of four numbers in range
+abbrev pub fits : ℕ → List (List ℕ) → Bool
+fits rows table = eqb (length table) rows && every rowFits table
 
 -- a number of a table that fits, and 0 outside the table, is at most 9999
-pub in-table : (rows width : ℕ) (table : List (List ℕ)) → fits rows width table ≡ true → (i j : ℕ) → getD (getD table i []) j 0 ≤ 9999
-in-table rows width table fit =
-    every-at (rowFits width) table [] in-row (λ j. omega arith) (and-eq-true-iff (eqb (length table) rows) (every (rowFits width) table) .0 fit .1)
+in-table : (rows : ℕ) (table : List (List ℕ)) → fits rows table ≡ true → (i j : ℕ) → getD (getD table i []) j 0 ≤ 9999
+in-table rows table fit =
+    every-at rowFits table [] in-row (λ j. omega arith) (and-eq-true-iff (eqb (length table) rows) (every rowFits table) .0 fit .1)
   where
-    at-most : (n : ℕ) → inRange n ≡ true → n ≤ 9999
-    at-most n h = leb-true n 9999 (and-eq-true-iff (leb 1 n) (leb n 9999) .0 h .1)
+    in-row : (row : List ℕ) → rowFits row ≡ true → (j : ℕ) → getD row j 0 ≤ 9999
+    in-row row h =
+        every-at inRange row 0 (λ n. leb-true n 9999) (omega arith) (and-eq-true-iff (eqb (length row) 4) (every inRange row) .0 h .1)
 
-    in-row : (row : List ℕ) → rowFits width row ≡ true → (j : ℕ) → getD row j 0 ≤ 9999
-    in-row row h = every-at inRange row 0 at-most (omega arith) (and-eq-true-iff (eqb (length row) width) (every inRange row) .0 h .1)
-
--- what a table that fits finds is small, where a row's factors are numbers of the row or 0
-pub found-small :
-    (factors : List ℕ → Factors) (first rows width : ℕ) (table : List (List ℕ)) → fits rows width table ≡ true →
-    ((row : List ℕ) → ((j : ℕ) → getD row j 0 ≤ 9999) → Small (factors row)) →
-    (key : ℕ) → Small (found (rowAt factors first table key))
+-- what a table that fits finds is small
+found-small : (first rows : ℕ) (table : List (List ℕ)) → fits rows table ≡ true → (key : ℕ) → Small (found (rowAt first table key))
 unfolding rowAt
-found-small factors first rows width table fit small key =
-    go (leb first key && ltb key (first + length table)) (small (getD table (key - first) []) (in-table rows width table fit (key - first)))
+found-small first rows table fit key = go (leb first key && ltb (key - first) (length table)) (getD table (key - first) []) (in-table rows table fit (key - first))
   where
-    go : (b : Bool) {f : Factors} → Small f → Small (found (cond b (Found f) Absent))
-    go true s = s
-    go false s = omega arith
+    go : (b : Bool) (row : List ℕ) → ((j : ℕ) → getD row j 0 ≤ 9999) → Small (found (cond b (Found (factorsIn row)) Absent))
+    go true row at = omega (arith, at 0, at 1, at 2, at 3)
+    go false row at = omega arith
 
-pub section1995-small : (age : ℕ) → Small (found (section1995Row age))
-unfolding section1995Row
-section1995-small = found-small section1995Factors 22 38 4 section1995 section1995-fits (λ row at. omega (arith, at 0, at 1, at 2, at 3))
+-- each table has the rows that its note has, and whatever is found in it is small
+pub small-row : (t : Table) (age ahead : ℕ) → Small (found (rowIn t age ahead))
+unfolding section1995Table scheme2015Table rowIn
+small-row Section1995 age ahead = found-small 22 38 section1995Table refl age
+small-row Scheme2015 age ahead = found-small 1 50 scheme2015Table refl ahead
+small-row NoTable age ahead = omega arith
 
-pub scheme2015-small : (years : ℕ) → Small (found (scheme2015Row years))
-unfolding scheme2015Row
-scheme2015-small = found-small scheme2015Factors 1 50 2 scheme2015 scheme2015-fits (λ row at. omega (arith, at 0, at 1))
-
--- a key that has a row does not stand before the first, nor past the last
-pub from-first : (first key : ℕ) (b : Bool) → (leb first key && b) ≡ true → first ≤ key
-from-first first key b h = leb-true first key (and-eq-true-iff (leb first key) b .0 h .0)
-
-pub to-last : (a : Bool) (key end : ℕ) → (a && ltb key end) ≡ true → key < end
-to-last a key end h = ltb-true key end (and-eq-true-iff a (ltb key end) .0 h .1)
-
--- a key within the table finds its row, and one outside it none, as a row and in numbers
-module _ (factors : List ℕ → Factors) (first : ℕ) (table : List (List ℕ)) (key : ℕ) where
-  pub row-within : {f : Factors} → (leb first key && ltb key (first + length table)) ≡ true → f ≡ factors (getD table (key - first) []) → (Found f ≡ rowAt factors first table key) × (rowNumbers (Found f) ≡ rowNumbers (rowAt factors first table key))
+-- a key within the table finds its row; one below the first, or past the last, none
+module _ (first : ℕ) (table : List (List ℕ)) (key : ℕ) where
+  pub row-within : {f : Factors} → first ≤ key → key - first < length table → f ≡ factorsIn (getD table (key - first) []) → Found f ≡ rowAt first table key
   unfolding rowAt
-  row-within e p = rw (e, p) (refl, refl)
+  row-within p q e = rw (le-leb first key p, lt-ltb (key - first) (length table) q, e)
 
-  pub row-outside : (leb first key && ltb key (first + length table)) ≡ false → (Absent ≡ rowAt factors first table key) × (rowNumbers Absent ≡ rowNumbers (rowAt factors first table key))
+  pub row-below : key < first → Absent ≡ rowAt first table key
   unfolding rowAt
-  row-outside e = rw e (refl, refl)
+  row-below p = rw (lt-leb first key p)
+
+  pub row-past : first ≤ key → length table ≤ key - first → Absent ≡ rowAt first table key
+  unfolding rowAt
+  row-past p q = rw (le-leb first key p, le-ltb (key - first) (length table) q)
+
+-- rows that are the same are so in numbers
+pub and-numbers : {r s : Row} → r ≡ s → (r ≡ s) × (rowNumbers r ≡ rowNumbers s)
+and-numbers e = (e, ap rowNumbers e)

@@ -1,4 +1,4 @@
--- A row of factors: what a table's columns are, whether a row was found, its numbers, and how large its factors may be.
+-- A row of factors: what its columns are, whether a row was found, its numbers, and how large its factors may be.
 -- Assumes nothing.
 use Prim.Native.Nat.{ℕ, _≤_}
 use mathlib.Core.Bool.{Bool, true, false}
@@ -8,19 +8,15 @@ use Rattle.factors.specs.declared.Factors.{Factors}
 use Rattle.factors.specs.declared.Row.{Row}
 use Rattle.factors.specs.declared.Row.the-variants.{Found, Absent}
 
--- the factors of a row of 001: A pension, B lump sum, C survivor, E deduction
-abbrev pub section1995Factors : List ℕ → Factors
-section1995Factors row =
+-- the factors of a row: pension, lump sum, survivor, deduction
+abbrev pub factorsIn : List ℕ → Factors
+factorsIn row =
     record {
       pension = getD row 0 0;
       lump = getD row 1 0;
       survivor = getD row 2 0;
       deduction = getD row 3 0;
     }
-
--- the factors of a row of 003: A pension, B survivor
-abbrev pub scheme2015Factors : List ℕ → Factors
-scheme2015Factors row = record { pension = getD row 0 0; lump = 0; survivor = getD row 1 0; deduction = 0 }
 
 abbrev pub noFactors : Factors
 noFactors = record { pension = 0; lump = 0; survivor = 0; deduction = 0 }

@@ -2,6 +2,7 @@
 // every key of a range that reaches past both ends of each table.
 use factors::Factors;
 use factors::Row;
+use factors::Table;
 use libc::STDIN_FILENO;
 use libc::STDOUT_FILENO;
 ghost use Prim.Native.Nat.{_≤_};
@@ -67,12 +68,12 @@ fn figure(s: &[u8], at: usize) -> Number {
 fn look_up(table: u64, key: u64) -> Row {
     if table == 1995 {
         if key <= 65535 {
-            return factors::section_1995_row(key as u16);
+            return factors::row_in(Table::Section1995, key as u16, 0);
         }
     }
     if table == 2015 {
         if key <= 4294967295 {
-            return factors::scheme_2015_row(key as u32);
+            return factors::row_in(Table::Scheme2015, 0, key as u32);
         }
     }
     Row::Absent

@@ -7,23 +7,15 @@ use Rattle.calendar.specs.Moving.{yearsAhead}
 use Rattle.cases.specs.Entries.{line, ageOf}
 use Rattle.cases.specs.Kinds.{rulesOf}
 use Rattle.cases.specs.declared.Case.{Case}
-use Rattle.cases.specs.declared.Table.{Table}
-use Rattle.cases.specs.declared.Table.the-variants.{Section1995, Scheme2015, NoTable}
 use Rattle.factors.specs.Rows.{found, noFactors}
-use Rattle.factors.specs.Tables.{section1995Row, scheme2015Row}
+use Rattle.factors.specs.Tables.{rowIn}
 use Rattle.factors.specs.declared.Factors.{Factors}
 use Rattle.factors.specs.declared.Row.{Row}
-use Rattle.factors.specs.declared.Row.the-variants.{Found, Absent}
+use Rattle.factors.specs.declared.Row.the-variants.{Found}
 
 -- years ahead of line i
 abbrev pub aheadOf : Case → ℕ → ℕ
 aheadOf c i = yearsAhead (c .guarantee) (line c i .date)
-
--- a row of a table, for an age or for years ahead
-abbrev pub rowIn : Table → ℕ → ℕ → Row
-rowIn Section1995 age ahead = section1995Row age
-rowIn Scheme2015 age ahead = scheme2015Row ahead
-rowIn NoTable age ahead = Absent
 
 -- the row used on line i, in the table of the kind; a line past the count is zero and has factors of zero
 unfoldable pub rowOf : Case → ℕ → Row

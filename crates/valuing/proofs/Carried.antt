@@ -9,18 +9,10 @@ use Rattle.numbers.proofs.Below.{sum-none, sum-more, any-none, any-more}
 use Rattle.cases.specs.Entries.{line, ageOf}
 use Rattle.cases.specs.Kinds.{rulesOf}
 use Rattle.cases.specs.declared.Case.{Case}
-use Rattle.cases.specs.declared.Table.{Table}
-use Rattle.cases.specs.declared.Table.the-variants.{Section1995, Scheme2015, NoTable}
-use Rattle.factors.specs.Rows.{found, Small}
-use Rattle.factors.proofs.Tables.{section1995-small, scheme2015-small}
-use Rattle.sums.specs.Rows.{aheadOf, rowIn, rowOf, factorsOf}
+use Rattle.factors.specs.Tables.{rowIn}
+use Rattle.sums.specs.Rows.{aheadOf, rowOf, factorsOf}
 use Rattle.valuing.specs.Totals.{TotalsBy, TotalsBelow, plusTotals}
 use Rattle.valuing.specs.declared.sum.Totals.{Totals}
-
-pub small-row : (t : Table) (age ahead : ℕ) → Small (found (rowIn t age ahead))
-small-row Section1995 age ahead = section1995-small age
-small-row Scheme2015 age ahead = scheme2015-small ahead
-small-row NoTable age ahead = omega arith
 
 -- the row that the code looks up on a line within the count
 pub row-within : (c : Case) (i : ℕ) → i < c .count → rowIn (rulesOf (c .kind) .table) (ageOf c) (aheadOf c i) ≡ rowOf c i

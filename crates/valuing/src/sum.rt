@@ -5,16 +5,17 @@ ghost use lib.Dec.{ltb};
 ghost use Rattle.calendar.specs.Moving.{yearsAhead};
 ghost use Rattle.cases.specs.Form.{WellFormed};
 ghost use Rattle.factors.specs.Rows.{absent, found, Small};
-ghost use Rattle.sums.specs.Rows.{rowIn};
+ghost use Rattle.factors.specs.Tables.{rowIn};
 ghost use Rattle.sums.specs.Sum.{revalued};
 ghost use Rattle.valuing.specs.Totals.{LineInRange, TotalsAt, TotalsBy, TotalsBelow, Bounded, plusTotals, restOf};
 use calendar::Date;
 use cases::Case;
 use cases::Line;
-use cases::Table;
 use cases::rules_of;
 use factors::Factors;
 use factors::Row;
+use factors::Table;
+use factors::row_in;
 
 // Items and deduction in hundredths of a penny, whether a row is absent, and whether Scheme Pays exceeds what it reduces.
 pub(crate) struct Totals {
@@ -36,17 +37,6 @@ pub(crate) enum Rest {
 struct Item {
     pub amount: u64,
     pub excess: bool,
-}
-
-// The row of a table for an age or for years ahead.
-fn row_for(table: Table, age: u16, ahead: u32) -> Row
-    ensures { λ r. ⌜ r ≡ rowIn table age ahead ⌝ }
-{
-    match table {
-        Table::Section1995 => factors::section_1995_row(age),
-        Table::Scheme2015 => factors::scheme_2015_row(ahead),
-        Table::NoTable => Row::Absent,
-    }
 }
 
 fn is_absent(row: Row) -> bool
@@ -130,7 +120,7 @@ fn totals_by_row(table: Table, age: u16, guarantee: Date, v: u32, l: Line) -> To
     requires { ⌜ LineInRange l × (v ≤ 100000) ⌝ }
     ensures { λ r. ⌜ TotalsBy (rowIn table age (yearsAhead guarantee (l .date))) v l r ⌝ }
 {
-    let row = row_for(table, age, calendar::years_ahead(guarantee, l.date));
+    let row = row_in(table, age, calendar::years_ahead(guarantee, l.date));
     line_totals(l, v, found_or_zero(row), is_absent(row))
 }
 

@@ -1,5 +1,5 @@
-// Reads cases from standard input, 51 numbers of 64 bits each, low byte first, in block order: the fields before the lines,
-// then each line's date and its eight amounts. A date is year + 65536 × month + 16777216 × day. Each number is cut to the
+// Reads cases from standard input, each a record of 64-bit numbers, low byte first, in block order: the fields before the lines,
+// then each line's date and its amounts. A date is year + 65536 × month + 16777216 × day. Each number is cut to the
 // width of its field, and the case is valued as it stands, without reading a block. Prints a line for each: its place from
 // 1, the case number, and the payment with its items as whole numbers (payment, underpin and AVC in pence, the others in
 // hundredths of a penny) or the refusal.
@@ -11,6 +11,13 @@ use cases::Line;
 use libc::STDIN_FILENO;
 use libc::STDOUT_FILENO;
 use refusals::Refusal;
+
+// The bytes of a record: 15 numbers before the lines, and for each of four lines its date and its eight amounts.
+const HEAD: usize = 15 * 8;
+
+const LINE: usize = 9 * 8;
+
+const RECORD: usize = HEAD + 4 * LINE;
 
 fn u8_of(n: u64) -> u8 {
     (n % 256) as u8
@@ -46,7 +53,7 @@ fn line(b: &[u8]) -> Line {
     }
 }
 
-// The case of the 15 numbers at the start of b, and of lines.
+// The case of the numbers at the start of b, and of lines.
 fn case_of(b: &[u8], lines: [Line; 4]) -> Case {
     Case {
         kind: u16_of(buffers::u64_at(b, 0)),
@@ -115,14 +122,14 @@ fn print_outcome(place: u64, number: u32, r: Outcome) {
     print_start(&out, end);
 }
 
-// Prints the line of a record of 51 numbers.
+// Prints the line of a record.
 fn print_case(place: u64, b: &[u8]) {
-    if b.len() == 408 {
+    if b.len() == RECORD {
         let lines = [
-            line(&b[120..]),
-            line(&b[192..]),
-            line(&b[264..]),
-            line(&b[336..]),
+            line(&b[HEAD..]),
+            line(&b[HEAD + LINE..]),
+            line(&b[HEAD + 2 * LINE..]),
+            line(&b[HEAD + 3 * LINE..]),
         ];
         let c = case_of(b, lines);
         print_outcome(place, c.number, valuing::value(c));
@@ -131,8 +138,8 @@ fn print_case(place: u64, b: &[u8]) {
 
 // Reads a record and prints its line; false at the end of the input.
 fn print_record(place: u64) -> bool {
-    let mut record = [0u8; 408];
-    if io::read_full(STDIN_FILENO, &mut record) < 408 {
+    let mut record = [0u8; RECORD];
+    if io::read_full(STDIN_FILENO, &mut record) < RECORD {
         return false;
     }
     print_case(place, &record);

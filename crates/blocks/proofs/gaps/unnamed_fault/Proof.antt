@@ -1,6 +1,5 @@
 -- `unnamed_fault` meets its contract.
 -- Assumes nothing.
-use mathlib.Core.Path.{sym}
 use Rattle.blocks.proofs.Places.{unnamed}
 use borrow.Author.Needs.{needs}
 use Rattle.blocks.proofs.gaps.unnamed_fault.Statement.{statement}
@@ -14,7 +13,7 @@ returns c =
     let nonzero4 = c .before .before .before .before .nonzero4 in
     let nonzero5 = c .before .before .before .nonzero5 in
     let nonzero6 = c .before .before .nonzero6 in
-    rw (nonzero .ensures, nonzero2 .ensures, nonzero3 .ensures, nonzero4 .ensures, nonzero5 .ensures, nonzero6 .ensures, c .before .nonzero7 .ensures, c .nonzero8 .ensures) (sym (unnamed _))
+    rw (nonzero .ensures, nonzero2 .ensures, nonzero3 .ensures, nonzero4 .ensures, nonzero5 .ensures, nonzero6 .ensures, c .before .nonzero7 .ensures, c .nonzero8 .ensures) (unnamed _)
 
 pub unnamed-fault-spec : {M : Type 1} → statement M
 unnamed-fault-spec =

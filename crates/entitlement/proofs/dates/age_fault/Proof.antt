@@ -1,12 +1,10 @@
 -- `age_fault` meets its contract.
 -- Assumes nothing.
-use Rattle.entitlement.specs.Entitlement.{ageFault}
 use borrow.Author.Needs.{needs}
 use Rattle.entitlement.proofs.dates.age_fault.Statement.{statement}
 use Rattle.entitlement.proofs.dates.age_fault.Tie as tie
 
 returns : tie.Need-returns
-unfolding ageFault
 returns c =
     let rules-of = c .before .before .rules-of in
     let if1 = c .before .if1 in
@@ -14,7 +12,6 @@ returns c =
     rw (← rules-of .ensures, if1 .taken, reached-fault .ensures)
 
 returns-2 : tie.Need-returns-2
-unfolding ageFault
 returns-2 c =
     let rules-of = c .before .before .before .rules-of in
     let if1 = c .before .before .if1 in

@@ -1,13 +1,12 @@
 -- `dates_fault` meets its contract.
 -- Assumes nothing.
 use Rattle.cases.specs.Entries.{lineBy}
-use Rattle.entitlement.specs.Entitlement.{datesFault}
 use borrow.Author.Needs.{needs}
 use Rattle.entitlement.proofs.dates.dates_fault.Statement.{statement}
 use Rattle.entitlement.proofs.dates.dates_fault.Tie as tie
 
 returns : tie.Need-returns
-unfolding datesFault lineBy
+unfolding lineBy
 returns c =
     let rules-of = c .before .before .before .before .before .before .before .before .before .before .before .rules-of in
     let before2 = c .before .before .before .before .before .before .before .before2 in

@@ -1,12 +1,10 @@
 -- `refer_fault` meets its contract.
 -- Assumes nothing.
-use Rattle.entitlement.specs.Entitlement.{referFault}
 use borrow.Author.Needs.{needs}
 use Rattle.entitlement.proofs.dates.refer_fault.Statement.{statement}
 use Rattle.entitlement.proofs.dates.refer_fault.Tie as tie
 
 returns : tie.Need-returns
-unfolding referFault
 returns c =
     let gmp-flag = c .before .gmp-flag in
     let before2 = c .before2 in

@@ -6,7 +6,8 @@ use native.Mathlib.Omega.{arith}
 use borrow.Author.Needs.{needs}
 use Rattle.calendar.specs.Moving.{yearsAhead}
 use Rattle.cases.specs.Entries.{lineBy, line}
-use Rattle.sums.specs.Rows.{rowIn, rowOf}
+use Rattle.factors.specs.Tables.{rowIn}
+use Rattle.sums.specs.Rows.{rowOf}
 use Rattle.valuing.specs.Totals.{TotalsBelow}
 use Rattle.valuing.proofs.Ranges.{head-in-range, line-in-range}
 use Rattle.valuing.proofs.Stages.{in-range}

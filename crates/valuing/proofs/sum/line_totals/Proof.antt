@@ -1,5 +1,6 @@
 -- `line_totals` meets its contract.
 -- Assumes nothing.
+use Prim.Native.Nat.{_≤_}
 use mathlib.Core.Path.{refl}
 use native.Mathlib.Nat.{mul-le-mul}
 use native.Mathlib.Omega.{arith}
@@ -9,15 +10,19 @@ use Rattle.valuing.proofs.sum.line_totals.Tie as tie
 
 mul-t8 : tie.Need-mul-t8
 mul-t8 c =
+    let args = c .before .before .before .before .before .before .before .args in
     let pre = c .before .before .before .before .before .before .before .pre in
-    omega (arith, mul-le-mul (pre .0 .1 .1 .1 .1 .1 .0) (pre .2 .deduction))
+    let small : args .l .modification ≤ 1000000000 = omega arith in
+    omega (arith, mul-le-mul small (pre .2 .deduction))
 
 returns : tie.Need-returns
 returns c =
+    let args = c .before .before .before .before .before .before .before .before .before .args in
     let pre = c .before .before .before .before .before .before .before .before .before .pre in
     let item-of = c .before .before .before .before .before .before .before .item-of in
     let item-of2 = c .before .before .before .before .before .before .item-of2 in
     let item-of3 = c .before .before .before .before .item-of3 in
+    let small : args .l .modification ≤ 1000000000 = omega arith in
     record {
       pension = item-of .ensures .0;
       lump = item-of2 .ensures .0;
@@ -30,7 +35,7 @@ returns c =
             pension = item-of .ensures .2;
             lump = item-of2 .ensures .2;
             survivor = item-of3 .ensures .2;
-            deduction = omega (arith, mul-le-mul (pre .0 .1 .1 .1 .1 .1 .0) (pre .2 .deduction));
+            deduction = omega (arith, mul-le-mul small (pre .2 .deduction));
           };
     }
 

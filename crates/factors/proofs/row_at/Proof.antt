@@ -1,0 +1,30 @@
+-- `row_at` meets its contract.
+-- Assumes nothing.
+use borrow.Author.Needs.{needs}
+use native.Mathlib.Omega.{arith}
+use Rattle.factors.proofs.Tables.{row-within, row-below, row-past}
+use Rattle.factors.proofs.row_at.Statement.{statement}
+use Rattle.factors.proofs.row_at.Tie as tie
+
+returns : tie.Need-returns
+returns c =
+    let args = c .before .before .before .before .args in
+    row-within (args .first) (args .table .now) (args .key) (omega arith) (omega arith) (c .factors-in .ensures)
+
+returns-2 : tie.Need-returns-2
+returns-2 c = let args = c .before .before .args in row-past (args .first) (args .table .now) (args .key) (omega arith) (omega arith)
+
+returns-3 : tie.Need-returns-3
+returns-3 c = let args = c .before .args in row-below (args .first) (args .table .now) (args .key) (omega arith)
+
+pub row-at-spec : {M : Type 1} → statement M
+row-at-spec =
+    tie.close
+    (tie.spec
+    (λ c. search needs)
+    (λ c. search needs)
+    (λ c. search needs)
+    (λ c κs. search needs)
+    returns
+    returns-2
+    returns-3)
