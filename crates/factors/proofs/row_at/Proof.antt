@@ -12,7 +12,9 @@ returns c =
     row-within (args .first) (args .table .now) (args .key) (omega arith) (omega arith) (c .factors-in .ensures)
 
 returns-2 : tie.Need-returns-2
-returns-2 c = let args = c .before .before .args in row-past (args .first) (args .table .now) (args .key) (omega arith) (omega arith)
+returns-2 c =
+    let args = c .before .before .args in
+    row-past (args .first) (args .table .now) (args .key) (omega arith) (omega arith)
 
 returns-3 : tie.Need-returns-3
 returns-3 c = let args = c .before .args in row-below (args .first) (args .table .now) (args .key) (omega arith)

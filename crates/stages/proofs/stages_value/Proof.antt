@@ -7,14 +7,8 @@ use borrow.Author.Needs.{needs}
 use Rattle.stages.proofs.stages_value.Statement.{statement}
 use Rattle.stages.proofs.stages_value.Tie as tie
 
-value-block-requires : tie.Need-value-block-requires
-value-block-requires c κs = search needs
-
-amount-requires : tie.Need-amount-requires
-amount-requires c κs = search needs
-
 returns : tie.Need-returns
 returns c = c .amount .ensures ∙ ap (λ (a : Answer). paid (a .outcome)) (c .before .value-block .ensures .0)
 
 pub stages-value-spec : {M : Type 1} → statement M
-stages-value-spec = tie.close (tie.spec value-block-requires amount-requires returns)
+stages-value-spec = tie.close (tie.spec (λ c κs. search needs) (λ c κs. search needs) returns)

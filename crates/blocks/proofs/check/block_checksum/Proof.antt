@@ -9,16 +9,17 @@ use borrow.Author.Needs.{needs}
 use Rattle.blocks.proofs.check.block_checksum.Statement.{statement}
 use Rattle.blocks.proofs.check.block_checksum.Tie as tie
 
-checksum-requires : tie.Need-checksum-requires
-checksum-requires c κs = search needs
-
 returns : tie.Need-returns
 unfolding block.checksumOrZero
-returns c = rw (lt-ltb (length (now (c .before .before .args .b))) 508 (omega arith))
+returns c =
+    let args = c .before .before .args in
+    rw (lt-ltb (length (now (args .b))) 508 (omega arith))
 
 returns-2 : tie.Need-returns-2
 unfolding block.checksumOrZero
-returns-2 c = rw (le-ltb (length (now (c .before .before .before .args .b))) 508 (omega arith)) (c .checksum .ensures)
+returns-2 c =
+    let args = c .before .before .before .args in
+    rw (le-ltb (length (now (args .b))) 508 (omega arith)) (c .checksum .ensures)
 
 pub block-checksum-spec : {M : Type 1} → statement M
-block-checksum-spec = tie.close (tie.spec checksum-requires returns returns-2)
+block-checksum-spec = tie.close (tie.spec (λ c κs. search needs) returns returns-2)

@@ -20,29 +20,11 @@ abbrev μ-loop : tie.MeasureT-loop
 loop-holds : tie.Need-loop-holds Inv-loop μ-loop
 loop-holds c = (omega arith, search needs, search needs, λ j h. absurd (omega arith))
 
-sum-column-requires : tie.Need-sum-column-requires Inv-loop μ-loop
-sum-column-requires c κs = search needs
-
-mul-plain : tie.Need-mul-plain Inv-loop μ-loop
-mul-plain c = search needs
-
-array-write-plain : tie.Need-array-write-plain Inv-loop μ-loop
-array-write-plain c = search needs
-
-mul-weighted : tie.Need-mul-weighted Inv-loop μ-loop
-mul-weighted c = search needs
-
-array-write-weighted : tie.Need-array-write-weighted Inv-loop μ-loop
-array-write-weighted c = search needs
-
-add-j : tie.Need-add-j Inv-loop μ-loop
-add-j c = search needs
-
-loop-less : tie.Need-loop-less Inv-loop μ-loop
-loop-less c = search needs
-
 loop-again : tie.Need-loop-again Inv-loop μ-loop
-loop-again c = (omega arith, search needs, search needs, columns-more (now (c .before .before .before .before .args .b)) (c .before .before .loop .plain) (c .before .before .loop .weighted) (c .before .before .loop .j) (c .sum-column .result .plain) (c .sum-column .result .weighted) (omega arith) (omega arith) (c .before .before .loop .inv .3) (c .sum-column .ensures))
+loop-again c =
+    let args = c .before .before .before .before .args in
+    let loop = c .before .before .loop in
+    (omega arith, search needs, search needs, columns-more (now (args .b)) (loop .plain) (loop .weighted) (loop .j) (c .sum-column .result .plain) (c .sum-column .result .weighted) (omega arith) (omega arith) (loop .inv .3) (c .sum-column .ensures))
 
 returns : tie.Need-returns Inv-loop μ-loop
 returns c = let e : c .before .loop .j ≡ 32 = omega arith in rw (← e) (c .before .loop .inv .3)
@@ -54,12 +36,12 @@ sum-columns-spec =
     Inv-loop
     μ-loop
     loop-holds
-    sum-column-requires
-    mul-plain
-    array-write-plain
-    mul-weighted
-    array-write-weighted
-    add-j
-    loop-less
+    (λ c κs. search needs)
+    (λ c. search needs)
+    (λ c. search needs)
+    (λ c. search needs)
+    (λ c. search needs)
+    (λ c. search needs)
+    (λ c. search needs)
     loop-again
     returns)

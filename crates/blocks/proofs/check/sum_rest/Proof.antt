@@ -19,36 +19,11 @@ loop-holds : tie.Need-loop-holds Inv-loop μ-loop
 unfolding restSum
 loop-holds c = (omega arith, sum-none _, omega arith)
 
-add-byte-term : tie.Need-add-byte-term Inv-loop μ-loop
-add-byte-term c = search needs
-
-add-byte-term-2 : tie.Need-add-byte-term-2 Inv-loop μ-loop
-add-byte-term-2 c = search needs
-
-cast-byte-term : tie.Need-cast-byte-term Inv-loop μ-loop
-cast-byte-term c = search needs
-
-add-byte-term-3 : tie.Need-add-byte-term-3 Inv-loop μ-loop
-add-byte-term-3 c = search needs
-
-shared-slice-read-byte-term : tie.Need-shared-slice-read-byte-term Inv-loop μ-loop
-shared-slice-read-byte-term c = search needs
-
-byte-term-requires : tie.Need-byte-term-requires Inv-loop μ-loop
-byte-term-requires c κs = search needs
-
-add-sum : tie.Need-add-sum Inv-loop μ-loop
-add-sum c = search needs
-
-add-i : tie.Need-add-i Inv-loop μ-loop
-add-i c = search needs
-
-loop-less : tie.Need-loop-less Inv-loop μ-loop
-loop-less c = search needs
-
 loop-again : tie.Need-loop-again Inv-loop μ-loop
 unfolding restSum
-loop-again c = (omega arith, rw (sum-more, c .before .before .before .loop .inv .1, c .byte-term .ensures .0), omega arith)
+loop-again c =
+    let loop = c .before .before .before .loop in
+    (omega arith, rw (sum-more, loop .inv .1, c .byte-term .ensures .0), omega arith)
 
 returns : tie.Need-returns Inv-loop μ-loop
 returns c = let e : c .before .loop .i ≡ 28 = omega arith in (rw (← e) (c .before .loop .inv .1), omega arith)
@@ -60,14 +35,14 @@ sum-rest-spec =
     Inv-loop
     μ-loop
     loop-holds
-    add-byte-term
-    add-byte-term-2
-    cast-byte-term
-    add-byte-term-3
-    shared-slice-read-byte-term
-    byte-term-requires
-    add-sum
-    add-i
-    loop-less
+    (λ c. search needs)
+    (λ c. search needs)
+    (λ c. search needs)
+    (λ c. search needs)
+    (λ c. search needs)
+    (λ c κs. search needs)
+    (λ c. search needs)
+    (λ c. search needs)
+    (λ c. search needs)
     loop-again
     returns)

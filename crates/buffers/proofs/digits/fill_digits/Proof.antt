@@ -24,14 +24,16 @@ loop-holds c = (search needs, refl, refl)
 
 loop-again : tie.Need-loop-again Inv-loop μ-loop
 loop-again c =
+    let args = c .before .before .args in
     let l = c .before .loop in
-    (search needs, simp length-set (omega arith), put-digit (l .out) (c .before .before .args .at) (l .i) (l .rest) (search needs) (search needs) ∙ l .inv .2)
+    (search needs, simp length-set (omega arith), put-digit (l .out) (args .at) (l .i) (l .rest) (search needs) (search needs) ∙ l .inv .2)
 
 returns : tie.Need-returns Inv-loop μ-loop
 unfolding lastDigits
 returns c =
+    let args = c .before .before .args in
     let l = c .before .loop in
-    let a = c .before .before .args in
+    let a = args in
     let z : l .i ≡ 0 = omega arith in
     sym (put-empty (l .out) (a .at) (omega arith)) ∙ ap (λ (k : ℕ). putAt (l .out) (a .at) (lastDigits k (l .rest))) (sym z) ∙ l .inv .2
 

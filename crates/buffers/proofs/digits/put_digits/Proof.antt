@@ -22,9 +22,10 @@ returns-2 c =
 returns-3 : tie.Need-returns-3
 returns-3 c =
     let args = c .before .before .before .before .before .before .before .args in
+    let fill-digits = c .before .before .fill-digits in
     let long = length-digits (args .k) (args .n) in
     let end = put-some (now (args .out)) (args .at) (lastDigits (args .k) (args .n)) (omega arith) .1 in
-    (c .before .before .fill-digits .ensures, omega arith)
+    (fill-digits .ensures, omega arith)
 
 pub put-digits-spec : {M : Type 1} → statement M
 put-digits-spec =

@@ -9,10 +9,14 @@ use Rattle.buffers.proofs.number.u16_at.Statement.{statement}
 use Rattle.buffers.proofs.number.u16_at.Tie as tie
 
 returns : tie.Need-returns
-returns c = let args = c .before .before .args in sym (number-none 2 (now (args .b)) (args .at) (omega arith))
+returns c =
+    let args = c .before .before .args in
+    sym (number-none 2 (now (args .b)) (args .at) (omega arith))
 
 returns-2 : tie.Need-returns-2
-returns-2 c = let args = c .before .before .before .args in sym (number-none 2 (now (args .b)) (args .at) (omega arith))
+returns-2 c =
+    let args = c .before .before .before .args in
+    sym (number-none 2 (now (args .b)) (args .at) (omega arith))
 
 returns-3 : tie.Need-returns-3
 returns-3 c =

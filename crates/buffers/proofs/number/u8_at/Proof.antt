@@ -12,7 +12,9 @@ returns : tie.Need-returns
 returns c = let args = c .before .args in sym (number-none 1 (now (args .b)) (args .at) (omega arith))
 
 returns-2 : tie.Need-returns-2
-returns-2 c = let args = c .before .before .args in sym (number-one (now (args .b)) (args .at) (omega arith))
+returns-2 c =
+    let args = c .before .before .args in
+    sym (number-one (now (args .b)) (args .at) (omega arith))
 
 pub u8-at-spec : {M : Type 1} → statement M
 u8-at-spec = tie.close (tie.spec returns (λ c. search needs) returns-2)

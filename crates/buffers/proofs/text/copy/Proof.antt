@@ -32,7 +32,9 @@ same-length : tie.Need-same-length Inv-loop μ-loop
 same-length c = c .before .loop .inv .2
 
 returns : tie.Need-returns Inv-loop μ-loop
-returns c = let e : c .before .loop .i ≡ length (now (c .before .before .args .text)) = omega arith in rw (← e) (c .before .loop .inv .1)
+returns c =
+    let args = c .before .before .args in
+    let e : c .before .loop .i ≡ length (now (args .text)) = omega arith in rw (← e) (c .before .loop .inv .1)
 
 pub copy-spec : {M : Type 1} → statement M
 copy-spec =
