@@ -1,18 +1,18 @@
 -- The laws of numbers in decimal: how many digits they have, and writing digits from the last to the first.
 -- Assumes nothing.
 use Prim.Native.Nat.{ℕ, zero, suc, _+_, _-_, _*_, _/_, _%_, _^_, _≤_, _<_}
-use mathlib.Core.List.{List, _++_}
+use mathlib.Core.List.{List, [], _∷_, _++_}
 use mathlib.Core.Logic.{⊎-elim, _⊎_, inl, inr}
-use mathlib.Core.Path.{_≡_, refl, ap, _∙_}
+use mathlib.Core.Path.{_≡_, refl, sym, ap, _∙_}
 use native.Mathlib.Decide.{decLt}
-use native.Mathlib.Nat.{not-suc-le-zero, one-le-pow, pow-suc, div-lt-iff-lt-mul, le-div-iff-mul-le}
+use native.Mathlib.Nat.{not-suc-le-zero, one-le-pow, pow-suc, div-lt-iff-lt-mul, le-div-iff-mul-le, add-mul-mod-self-left, mod-eq-of-lt, div-div-eq-div-mul}
 use native.Mathlib.Numerals.{add-one}
 use native.Mathlib.Omega.{arith}
 use lib.Dec.{lit<}
-use lib.ListN.{length, set, length-append}
+use lib.ListN.{length, set, length-set, length-append}
 use borrow.Author.Tests.{lt-ltb, le-ltb}
-use Rattle.buffers.specs.Text.{putAt}
-use Rattle.buffers.proofs.Writing.{put-stored}
+use Rattle.buffers.specs.Text.{putAt, Written}
+use Rattle.buffers.proofs.Writing.{put-stored, put-byte, written-length, then-written}
 use Rattle.buffers.specs.Decimal.{lastDigit, lastDigits, digitsWithin, decimal}
 
 pub length-digits : (k n : ℕ) → length (lastDigits k n) ≡ k
@@ -31,6 +31,36 @@ put-digit b at (suc i) n h room =
     let e : suc i - 1 ≡ i = omega arith in
     let s : putAt (set b (at + length t) (48 + n % 10)) at t ≡ putAt b at (t ++ lastDigit n) = put-stored b at t (48 + n % 10) (omega arith) in
     rw e (rw l at s)
+
+-- so are the last two, from one remainder
+pub put-pair : (b : List ℕ) (at i n : ℕ) → 1 < i → at + i ≤ length b
+    → putAt (set (set b (at + (i - 2) + 1) (48 + n % 100 % 10)) (at + (i - 2)) (48 + n % 100 / 10)) at (lastDigits (i - 2) (n / 100)) ≡ putAt b at (lastDigits i n)
+put-pair b at i n h room =
+    let whole : n % 100 + 10 * (10 * (n / 100)) ≡ n = omega arith in
+    let low : n % 100 % 10 ≡ n % 10 = sym (add-mul-mod-self-left (n % 100) 10 (10 * (n / 100))) ∙ ap (λ (m : ℕ). m % 10) whole in
+    let tens : n % 100 / 10 + 10 * (n / 100) ≡ n / 10 = omega arith in
+    let high : n % 100 / 10 ≡ n / 10 % 10 =
+    sym (mod-eq-of-lt {n = n % 100 / 10} {m = 10} (omega arith)) ∙ sym (add-mul-mod-self-left (n % 100 / 10) 10 (n / 100)) ∙ ap (λ (m : ℕ). m % 10) tens in
+    let rest : n / 100 ≡ n / 10 / 10 = sym (div-div-eq-div-mul n 10 10) in
+    let last : at + (i - 2) + 1 ≡ at + (i - 1) = omega arith in
+    let two : i - 2 ≡ i - 1 - 1 = omega arith in
+    let stored : List ℕ = set b (at + (i - 1)) (48 + n % 10) in
+    rw (low, high, rest, last, two)
+    (put-digit stored at (i - 1) (n / 10) (omega arith) (omega (arith, length-set b (at + (i - 1)) (48 + n % 10))) ∙ put-digit b at i n (omega arith) room)
+
+-- digits, a point, and digits again, in a buffer that has room for them
+pub put-point : (b : List ℕ) (at k whole d n : ℕ) {m a : List ℕ} → at + k + 1 + d ≤ length b → m ≡ putAt b at (lastDigits k whole)
+    → a ≡ putAt (set m (at + k) 46) (at + k + 1) (lastDigits d n) → a ≡ putAt b at (lastDigits k whole ++ (46 ∷ []) ++ lastDigits d n)
+put-point b at k whole d n {m} {a} room e f =
+    let lk = length-digits k whole in
+    let ld = length-digits d n in
+    let v : Written b at (lastDigits k whole) m (at + k) = record { bytes = e; stop = omega arith; room = omega arith } in
+    let lm = written-length v in
+    let s : Written m (at + k) (46 ∷ []) (set m (at + k) 46) (at + k + 1) =
+    record { bytes = put-byte m (at + k) 46 (omega arith); stop = omega arith; room = omega arith } in
+    let w : Written (set m (at + k) 46) (at + k + 1) (lastDigits d n) a (at + k + 1 + d) =
+    record { bytes = f; stop = omega arith; room = omega (arith, length-set m (at + k) 46) } in
+    then-written (then-written v s) w .bytes
 
 split : (n : ℕ) → (n < 10) ⊎ (10 ≤ n)
 split n = by (decLt n 10)

@@ -44,6 +44,12 @@ put-stored b p t x h =
 pub put-empty : (b : List ℕ) (p : ℕ) → p ≤ length b → putAt b p [] ≡ b
 put-empty b p h = put-over b p [] (omega arith) ∙ rw (append-nil, add-zero, take-append-drop)
 
+-- one byte stored
+pub put-byte : (b : List ℕ) (p x : ℕ) → p < length b → set b p x ≡ putAt b p (x ∷ [])
+put-byte b p x h =
+    let s = put-stored b p [] x (omega arith) in
+    sym (put-empty (set b p x) p (simp length-set (omega arith))) ∙ (rw add-zero at s)
+
 pub written-length : {b t a : List ℕ} {p e : ℕ} → Written b p t a e → length a ≡ length b
 written-length {b} {t} {a} {p} {e} w = let s = w .stop in let r = w .room in ap length (w .bytes) ∙ length-put b p t (omega arith)
 

@@ -4,6 +4,7 @@ use Prim.Native.Nat.{ℕ, zero, suc, _+_, _/_, _%_}
 use mathlib.Core.Bool.{cond}
 use mathlib.Core.List.{List, [], _∷_, _++_}
 use lib.Dec.{ltb}
+use Rattle.buffers.specs.Text.{ascii}
 
 -- the last digit of n, in ASCII
 abbrev pub lastDigit : ℕ → List ℕ
@@ -22,3 +23,7 @@ digitsWithin (suc k) n = cond (ltb n 10) (lastDigit n) (digitsWithin k (n / 10) 
 -- n in decimal: it has fewer digits than n + 2
 unfoldable pub decimal : ℕ → List ℕ
 decimal n = digitsWithin (suc n) n
+
+-- a whole part in decimal, a point, and the last d digits of n
+abbrev pub fixedPoint : ℕ → ℕ → ℕ → List ℕ
+fixedPoint whole d n = decimal whole ++ ascii "." ++ lastDigits d n

@@ -1,26 +1,32 @@
-// Numbers in decimal, written into a lent buffer.
+// Numbers in decimal, with a point too, written into a lent buffer.
 ghost use mathlib.Core.Path.{_≡_};
 ghost use Prim.Native.Nat.{_+_, _≤_};
 ghost use lib.ListN.{length};
-ghost use Rattle.buffers.specs.Text.{putAt, putEnd};
-ghost use Rattle.buffers.specs.Decimal.{lastDigits, decimal};
+ghost use mathlib.Core.List.{_++_};
+ghost use Rattle.buffers.specs.Text.{ascii, putAt, putEnd};
+ghost use Rattle.buffers.specs.Decimal.{lastDigits, decimal, fixedPoint};
 
-// The last of the digits is stored first.
+// The last of the digits are stored first, two to a division.
 fn fill_digits(out: &mut [u8], at: usize, n: u64, k: usize)
     requires { ⌜ at + k ≤ length (now out) ⌝ }
     ensures { λ _. ⌜ now (out .exit) ≡ putAt (now (out .entry)) at (lastDigits k n) ⌝ }
 {
     let mut i = k;
     let mut rest = n;
-    while 0 < i {
-        i -= 1;
-        out[at + i] = 48 + (rest % 10) as u8;
-        rest /= 10;
+    while 1 < i {
+        i -= 2;
+        let pair = rest % 100;
+        out[at + i + 1] = 48 + (pair % 10) as u8;
+        out[at + i] = 48 + (pair / 10) as u8;
+        rest /= 100;
+    }
+    if i == 1 {
+        out[at] = 48 + (rest % 10) as u8;
     }
 }
 
 // Writes the last k decimal digits of n from index at on, as put writes a text.
-pub fn put_digits(out: &mut [u8], at: usize, n: u64, k: usize) -> usize
+fn put_digits(out: &mut [u8], at: usize, n: u64, k: usize) -> usize
     ensures { λ r. ⌜ now (out .exit) ≡ putAt (now (out .entry)) at (lastDigits k n) ⌝ }
     ensures { λ r. ⌜ r ≡ putEnd (now (out .entry)) at (lastDigits k n) ⌝ }
 {
@@ -58,4 +64,31 @@ pub fn put_decimal(out: &mut [u8], at: usize, n: u64) -> usize
 {
     let k = count_digits(n);
     put_digits(out, at, n, k)
+}
+
+fn fill_fixed_point(out: &mut [u8], at: usize, whole: u64, k: usize, n: u64, d: usize)
+    requires { ⌜ at + k + 1 + d ≤ length (now out) ⌝ }
+    ensures { λ _. ⌜ now (out .exit) ≡ putAt (now (out .entry)) at (lastDigits k whole ++ ascii "." ++ lastDigits d n) ⌝ }
+{
+    fill_digits(out, at, whole, k);
+    out[at + k] = b'.';
+    fill_digits(out, at + k + 1, n, d);
+}
+
+// Writes a whole part in decimal, a point and the last d digits of n from index at on, as put writes a text: whether there is room
+// is asked once for all three.
+pub fn put_fixed_point(out: &mut [u8], at: usize, whole: u64, n: u64, d: u8) -> usize
+    ensures { λ r. ⌜ now (out .exit) ≡ putAt (now (out .entry)) at (fixedPoint whole d n) ⌝ }
+    ensures { λ r. ⌜ r ≡ putEnd (now (out .entry)) at (fixedPoint whole d n) ⌝ }
+{
+    let k = count_digits(whole);
+    let size = k + 1 + d as usize;
+    if out.len() < size {
+        return at;
+    }
+    if out.len() - size < at {
+        return at;
+    }
+    fill_fixed_point(out, at, whole, k, n, d as usize);
+    at + size
 }

@@ -4,7 +4,7 @@ mod number;
 mod text;
 
 pub use digits::put_decimal;
-pub use digits::put_digits;
+pub use digits::put_fixed_point;
 pub use number::u8_at;
 pub use number::u16_at;
 pub use number::u32_at;

@@ -8,15 +8,19 @@ use Rattle.factors.specs.declared.Factors.{Factors}
 use Rattle.factors.specs.declared.Row.{Row}
 use Rattle.factors.specs.declared.Row.the-variants.{Found, Absent}
 
--- the factors of a row: pension, lump sum, survivor, deduction
-abbrev pub factorsIn : List ℕ → Factors
-factorsIn row =
+-- the factors of a row of 001: A pension, B lump sum, C survivor, E deduction
+abbrev pub fourColumns : List ℕ → Factors
+fourColumns row =
     record {
       pension = getD row 0 0;
       lump = getD row 1 0;
       survivor = getD row 2 0;
       deduction = getD row 3 0;
     }
+
+-- the factors of a row of 003: A pension, B survivor
+abbrev pub twoColumns : List ℕ → Factors
+twoColumns row = record { pension = getD row 0 0; lump = 0; survivor = getD row 1 0; deduction = 0 }
 
 abbrev pub noFactors : Factors
 noFactors = record { pension = 0; lump = 0; survivor = 0; deduction = 0 }

@@ -5,11 +5,12 @@ use mathlib.Core.Bool.{cond, _&&_}
 use mathlib.Core.List.{List, [], _∷_}
 use lib.Dec.{leb, ltb}
 use lib.ListN.{length, getD}
+use Rattle.factors.specs.declared.Factors.{Factors}
 use Rattle.factors.specs.declared.Row.{Row}
 use Rattle.factors.specs.declared.Row.the-variants.{Found, Absent}
 use Rattle.factors.specs.declared.Table.{Table}
 use Rattle.factors.specs.declared.Table.the-variants.{Section1995, Scheme2015, NoTable}
-use Rattle.factors.specs.Rows.{factorsIn}
+use Rattle.factors.specs.Rows.{fourColumns, twoColumns}
 
 -- Table TV1 of 001, by age from 22: A pension, B lump sum, C survivor, E deduction.
 -- 001's text names 20 as the first age, its table 22: the table decides. TV2 repeats these figures, as the factors are
@@ -55,71 +56,68 @@ section1995Table =
     (1985 ∷ 97 ∷ 154 ∷ 1395 ∷ []) ∷
     (2034 ∷ 99 ∷ 154 ∷ 1437 ∷ []) ∷ []
 
--- a row of 003 in the columns of 001: A pension, B survivor; there is no lump sum and no deduction
-abbrev pub withSurvivor : ℕ → ℕ → List ℕ
-withSurvivor pension survivor = pension ∷ 0 ∷ survivor ∷ 0 ∷ []
-
--- Table TV1 of 003, by years ahead from 1.
+-- Table TV1 of 003, by years ahead from 1: A pension, B survivor.
 unfoldable pub scheme2015Table : List (List ℕ)
 scheme2015Table =
-    withSurvivor 1708 160 ∷
-    withSurvivor 1665 160 ∷
-    withSurvivor 1624 160 ∷
-    withSurvivor 1572 161 ∷
-    withSurvivor 1522 161 ∷
-    withSurvivor 1474 161 ∷
-    withSurvivor 1427 161 ∷
-    withSurvivor 1394 160 ∷
-    withSurvivor 1362 159 ∷
-    withSurvivor 1331 158 ∷
-    withSurvivor 1301 157 ∷
-    withSurvivor 1272 156 ∷
-    withSurvivor 1244 154 ∷
-    withSurvivor 1217 152 ∷
-    withSurvivor 1190 151 ∷
-    withSurvivor 1164 149 ∷
-    withSurvivor 1139 147 ∷
-    withSurvivor 1115 145 ∷
-    withSurvivor 1091 143 ∷
-    withSurvivor 1068 141 ∷
-    withSurvivor 1045 139 ∷
-    withSurvivor 1014 138 ∷
-    withSurvivor 984 136 ∷
-    withSurvivor 955 135 ∷
-    withSurvivor 927 133 ∷
-    withSurvivor 908 131 ∷
-    withSurvivor 889 129 ∷
-    withSurvivor 871 127 ∷
-    withSurvivor 853 125 ∷
-    withSurvivor 835 122 ∷
-    withSurvivor 818 120 ∷
-    withSurvivor 801 118 ∷
-    withSurvivor 785 115 ∷
-    withSurvivor 769 113 ∷
-    withSurvivor 753 110 ∷
-    withSurvivor 737 108 ∷
-    withSurvivor 722 106 ∷
-    withSurvivor 708 103 ∷
-    withSurvivor 693 101 ∷
-    withSurvivor 679 99 ∷
-    withSurvivor 665 97 ∷
-    withSurvivor 652 94 ∷
-    withSurvivor 639 92 ∷
-    withSurvivor 626 90 ∷
-    withSurvivor 613 88 ∷
-    withSurvivor 600 86 ∷
-    withSurvivor 588 84 ∷
-    withSurvivor 576 82 ∷
-    withSurvivor 564 80 ∷
-    withSurvivor 553 75 ∷ []
+    (1708 ∷ 160 ∷ []) ∷
+    (1665 ∷ 160 ∷ []) ∷
+    (1624 ∷ 160 ∷ []) ∷
+    (1572 ∷ 161 ∷ []) ∷
+    (1522 ∷ 161 ∷ []) ∷
+    (1474 ∷ 161 ∷ []) ∷
+    (1427 ∷ 161 ∷ []) ∷
+    (1394 ∷ 160 ∷ []) ∷
+    (1362 ∷ 159 ∷ []) ∷
+    (1331 ∷ 158 ∷ []) ∷
+    (1301 ∷ 157 ∷ []) ∷
+    (1272 ∷ 156 ∷ []) ∷
+    (1244 ∷ 154 ∷ []) ∷
+    (1217 ∷ 152 ∷ []) ∷
+    (1190 ∷ 151 ∷ []) ∷
+    (1164 ∷ 149 ∷ []) ∷
+    (1139 ∷ 147 ∷ []) ∷
+    (1115 ∷ 145 ∷ []) ∷
+    (1091 ∷ 143 ∷ []) ∷
+    (1068 ∷ 141 ∷ []) ∷
+    (1045 ∷ 139 ∷ []) ∷
+    (1014 ∷ 138 ∷ []) ∷
+    (984 ∷ 136 ∷ []) ∷
+    (955 ∷ 135 ∷ []) ∷
+    (927 ∷ 133 ∷ []) ∷
+    (908 ∷ 131 ∷ []) ∷
+    (889 ∷ 129 ∷ []) ∷
+    (871 ∷ 127 ∷ []) ∷
+    (853 ∷ 125 ∷ []) ∷
+    (835 ∷ 122 ∷ []) ∷
+    (818 ∷ 120 ∷ []) ∷
+    (801 ∷ 118 ∷ []) ∷
+    (785 ∷ 115 ∷ []) ∷
+    (769 ∷ 113 ∷ []) ∷
+    (753 ∷ 110 ∷ []) ∷
+    (737 ∷ 108 ∷ []) ∷
+    (722 ∷ 106 ∷ []) ∷
+    (708 ∷ 103 ∷ []) ∷
+    (693 ∷ 101 ∷ []) ∷
+    (679 ∷ 99 ∷ []) ∷
+    (665 ∷ 97 ∷ []) ∷
+    (652 ∷ 94 ∷ []) ∷
+    (639 ∷ 92 ∷ []) ∷
+    (626 ∷ 90 ∷ []) ∷
+    (613 ∷ 88 ∷ []) ∷
+    (600 ∷ 86 ∷ []) ∷
+    (588 ∷ 84 ∷ []) ∷
+    (576 ∷ 82 ∷ []) ∷
+    (564 ∷ 80 ∷ []) ∷
+    (553 ∷ 75 ∷ []) ∷ []
 
--- What a key finds in a table whose first row is for the key `first`. There is no row below the first nor past the last.
-unfoldable pub rowAt : ℕ → List (List ℕ) → ℕ → Row
-rowAt first table key =
-    cond (leb first key && ltb (key - first) (length table)) (Found (factorsIn (getD table (key - first) []))) Absent
+-- What a key finds in a table whose first row is for the key `first`; `columns` says which factor each column is. There is no row
+-- below the first nor past the last.
+unfoldable pub rowAt : (List ℕ → Factors) → ℕ → List (List ℕ) → ℕ → Row
+rowAt columns first table key =
+    cond (leb first key && ltb (key - first) (length table)) (Found (columns (getD table (key - first) []))) Absent
 
 -- the row of a table, for an age or for years ahead, whichever the table goes by
 unfoldable pub rowIn : Table → ℕ → ℕ → Row
-rowIn Section1995 age ahead = rowAt 22 section1995Table age
-rowIn Scheme2015 age ahead = rowAt 1 scheme2015Table ahead
+rowIn Section1995 age ahead = rowAt fourColumns 22 section1995Table age
+rowIn Scheme2015 age ahead = rowAt twoColumns 1 scheme2015Table ahead
 rowIn NoTable age ahead = Absent

@@ -1,6 +1,6 @@
 // The factor tables of the guidance notes, in hundredths, and looking up a row of them.
 ghost use mathlib.Core.Path.{_≡_};
-ghost use Rattle.factors.specs.Rows.{factorsIn, rowNumbers};
+ghost use Rattle.factors.specs.Rows.{fourColumns, twoColumns, rowNumbers};
 ghost use Rattle.factors.specs.Tables.{rowAt, rowIn};
 
 // The factors of a line, in hundredths; zero where a kind has none.
@@ -67,64 +67,63 @@ const SECTION_1995: [[u16; 4]; 38] = [
     [2034, 99, 154, 1437],
 ];
 
-// Table TV1 of 003 by years ahead, from 1: A pension and B survivor, in the columns of the table above; there is no lump sum and no
-// deduction.
-const SCHEME_2015: [[u16; 4]; 50] = [
-    [1708, 0, 160, 0],
-    [1665, 0, 160, 0],
-    [1624, 0, 160, 0],
-    [1572, 0, 161, 0],
-    [1522, 0, 161, 0],
-    [1474, 0, 161, 0],
-    [1427, 0, 161, 0],
-    [1394, 0, 160, 0],
-    [1362, 0, 159, 0],
-    [1331, 0, 158, 0],
-    [1301, 0, 157, 0],
-    [1272, 0, 156, 0],
-    [1244, 0, 154, 0],
-    [1217, 0, 152, 0],
-    [1190, 0, 151, 0],
-    [1164, 0, 149, 0],
-    [1139, 0, 147, 0],
-    [1115, 0, 145, 0],
-    [1091, 0, 143, 0],
-    [1068, 0, 141, 0],
-    [1045, 0, 139, 0],
-    [1014, 0, 138, 0],
-    [984, 0, 136, 0],
-    [955, 0, 135, 0],
-    [927, 0, 133, 0],
-    [908, 0, 131, 0],
-    [889, 0, 129, 0],
-    [871, 0, 127, 0],
-    [853, 0, 125, 0],
-    [835, 0, 122, 0],
-    [818, 0, 120, 0],
-    [801, 0, 118, 0],
-    [785, 0, 115, 0],
-    [769, 0, 113, 0],
-    [753, 0, 110, 0],
-    [737, 0, 108, 0],
-    [722, 0, 106, 0],
-    [708, 0, 103, 0],
-    [693, 0, 101, 0],
-    [679, 0, 99, 0],
-    [665, 0, 97, 0],
-    [652, 0, 94, 0],
-    [639, 0, 92, 0],
-    [626, 0, 90, 0],
-    [613, 0, 88, 0],
-    [600, 0, 86, 0],
-    [588, 0, 84, 0],
-    [576, 0, 82, 0],
-    [564, 0, 80, 0],
-    [553, 0, 75, 0],
+// Table TV1 of 003 by years ahead, from 1: A pension, B survivor.
+const SCHEME_2015: [[u16; 2]; 50] = [
+    [1708, 160],
+    [1665, 160],
+    [1624, 160],
+    [1572, 161],
+    [1522, 161],
+    [1474, 161],
+    [1427, 161],
+    [1394, 160],
+    [1362, 159],
+    [1331, 158],
+    [1301, 157],
+    [1272, 156],
+    [1244, 154],
+    [1217, 152],
+    [1190, 151],
+    [1164, 149],
+    [1139, 147],
+    [1115, 145],
+    [1091, 143],
+    [1068, 141],
+    [1045, 139],
+    [1014, 138],
+    [984, 136],
+    [955, 135],
+    [927, 133],
+    [908, 131],
+    [889, 129],
+    [871, 127],
+    [853, 125],
+    [835, 122],
+    [818, 120],
+    [801, 118],
+    [785, 115],
+    [769, 113],
+    [753, 110],
+    [737, 108],
+    [722, 106],
+    [708, 103],
+    [693, 101],
+    [679, 99],
+    [665, 97],
+    [652, 94],
+    [639, 92],
+    [626, 90],
+    [613, 88],
+    [600, 86],
+    [588, 84],
+    [576, 82],
+    [564, 80],
+    [553, 75],
 ];
 
-// The factors of a row: pension, lump sum, survivor, deduction.
-fn factors_in(row: [u16; 4]) -> Factors
-    ensures { λ r. ⌜ r ≡ factorsIn row ⌝ }
+// The factors of a row of 001: A pension, B lump sum, C survivor, E deduction.
+fn four_columns(row: [u16; 4]) -> Factors
+    ensures { λ r. ⌜ r ≡ fourColumns row ⌝ }
 {
     Factors {
         pension: row[0] as u64,
@@ -134,14 +133,39 @@ fn factors_in(row: [u16; 4]) -> Factors
     }
 }
 
-// What a key finds in a table whose first row is for the key `first`.
-fn row_at(table: &[[u16; 4]], first: u32, key: u32) -> Row
-    ensures { λ r. ⌜ r ≡ rowAt first (now (table .entry)) key ⌝ }
+// The factors of a row of 003: A pension, B survivor.
+fn two_columns(row: [u16; 2]) -> Factors
+    ensures { λ r. ⌜ r ≡ twoColumns row ⌝ }
+{
+    Factors {
+        pension: row[0] as u64,
+        lump: 0,
+        survivor: row[1] as u64,
+        deduction: 0,
+    }
+}
+
+// What a key finds in a table of four columns whose first row is for the key `first`.
+fn row_of_four(table: &[[u16; 4]], first: u32, key: u32) -> Row
+    ensures { λ r. ⌜ r ≡ rowAt fourColumns first (now (table .entry)) key ⌝ }
 {
     if first <= key {
         let i = (key - first) as usize;
         if i < table.len() {
-            return Row::Found(factors_in(table[i]));
+            return Row::Found(four_columns(table[i]));
+        }
+    }
+    Row::Absent
+}
+
+// The same in a table of two: with four, half of them zero, there would be twice as much to copy at each use of the table's name.
+fn row_of_two(table: &[[u16; 2]], first: u32, key: u32) -> Row
+    ensures { λ r. ⌜ r ≡ rowAt twoColumns first (now (table .entry)) key ⌝ }
+{
+    if first <= key {
+        let i = (key - first) as usize;
+        if i < table.len() {
+            return Row::Found(two_columns(table[i]));
         }
     }
     Row::Absent
@@ -153,8 +177,8 @@ pub fn row_in(table: Table, age: u16, ahead: u32) -> Row
     ensures numbers { λ r. ⌜ rowNumbers r ≡ rowNumbers (rowIn table age ahead) ⌝ }
 {
     match table {
-        Table::Section1995 => row_at(&SECTION_1995, 22, age as u32),
-        Table::Scheme2015 => row_at(&SCHEME_2015, 1, ahead),
+        Table::Section1995 => row_of_four(&SECTION_1995, 22, age as u32),
+        Table::Scheme2015 => row_of_two(&SCHEME_2015, 1, ahead),
         Table::NoTable => Row::Absent,
     }
 }

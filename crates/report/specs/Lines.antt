@@ -2,7 +2,7 @@
 -- Assumes nothing.
 use Prim.Native.Nat.{ℕ, _/_, _^_}
 use mathlib.Core.List.{List, _++_}
-use Rattle.buffers.specs.Decimal.{lastDigits, decimal}
+use Rattle.buffers.specs.Decimal.{decimal, fixedPoint}
 use Rattle.buffers.specs.Text.{ascii}
 use Rattle.refusals.specs.Refusals.{numberOf, nameOf}
 use Rattle.refusals.specs.declared.Refusal.{Refusal}
@@ -15,13 +15,9 @@ use Rattle.answers.specs.declared.Outcome.the-variants.{Paid, Refused}
 abbrev pub header : List ℕ
 header = ascii "transfer values\n"
 
--- a word, whole pounds, a point and the last d digits of n
-abbrev pub withPoint : List ℕ → ℕ → ℕ → ℕ → List ℕ
-withPoint word pounds d n = word ++ decimal pounds ++ ascii "." ++ lastDigits d n
-
 -- a word and an amount in units of which 10 ^ d make a pound, as pounds with d decimals
 abbrev pub item : List ℕ → ℕ → ℕ → List ℕ
-item word d n = withPoint word (n / 10 ^ d) d n
+item word d n = word ++ fixedPoint (n / 10 ^ d) d n
 
 -- a payment with its items, in pounds: two decimals for what is whole pence (payment, underpin, AVC), four for what is not
 unfoldable pub paidText : Items → List ℕ

@@ -1,22 +1,22 @@
 // The parts of a block's line after its numbers, each written where there is room for it.
 ghost use Rattle.buffers.specs.Text.{WrittenIfRoom};
-ghost use Rattle.report.specs.Lines.{withPoint, paidText, refusedText};
+ghost use mathlib.Core.List.{_++_};
+ghost use Rattle.buffers.specs.Decimal.{fixedPoint};
+ghost use Rattle.report.specs.Lines.{paidText, refusedText};
 use answers::Items;
 use buffers::put;
 use buffers::put_decimal;
-use buffers::put_digits;
+use buffers::put_fixed_point;
 use refusals::Refusal;
 use refusals::put_name;
 use refusals::refusal_number;
 
 // A word and an amount: whole pounds, a point, and the last d digits of n.
-fn put_item(out: &mut [u8], at: usize, word: &[u8], pounds: u64, n: u64, d: usize) -> usize
-    ensures { λ r. ⌜ WrittenIfRoom (now (out .entry)) at (withPoint (now (word .entry)) pounds d n) (now (out .exit)) r ⌝ }
+fn put_item(out: &mut [u8], at: usize, word: &[u8], pounds: u64, n: u64, d: u8) -> usize
+    ensures { λ r. ⌜ WrittenIfRoom (now (out .entry)) at (now (word .entry) ++ fixedPoint pounds d n) (now (out .exit)) r ⌝ }
 {
     let a = put(out, at, word);
-    let b = put_decimal(out, a, pounds);
-    let e = put(out, b, b".");
-    put_digits(out, e, n, d)
+    put_fixed_point(out, a, pounds, n, d)
 }
 
 pub(crate) fn put_items(out: &mut [u8], at: usize, i: Items) -> usize

@@ -9,11 +9,11 @@ use Rattle.factors.proofs.row_in.Tie as tie
 
 returns : tie.Need-returns
 unfolding section1995Table rowIn
-returns c = rw (c .before .before .enum-told .given .1) (and-numbers (c .row-at .ensures))
+returns c = rw (c .before .before .enum-told .given .1) (and-numbers (c .row-of-four .ensures))
 
 returns-2 : tie.Need-returns-2
 unfolding scheme2015Table rowIn
-returns-2 c = rw (c .before .before .enum-told2 .given .1) (and-numbers (c .row-at2 .ensures))
+returns-2 c = rw (c .before .before .enum-told2 .given .1) (and-numbers (c .row-of-two .ensures))
 
 returns-3 : tie.Need-returns-3
 unfolding rowIn

@@ -1,13 +1,13 @@
 -- `fill_digits` meets its contract: with i digits left, writing them over what is there gives the whole.
 -- Assumes nothing.
-use Prim.Native.Nat.{ℕ, _≤_}
+use Prim.Native.Nat.{ℕ, _+_, _%_, _≤_}
 use mathlib.Core.Path.{_≡_, refl, sym, ap, _∙_}
 use native.Mathlib.Omega.{arith}
 use lib.ListN.{length, length-set}
 use Rattle.buffers.specs.Text.{putAt}
-use Rattle.buffers.proofs.Writing.{put-empty}
 use Rattle.buffers.specs.Decimal.{lastDigits}
-use Rattle.buffers.proofs.Decimal.{put-digit}
+use Rattle.buffers.proofs.Writing.{put-empty, put-byte}
+use Rattle.buffers.proofs.Decimal.{put-pair}
 use borrow.Author.Needs.{needs}
 use Rattle.buffers.proofs.digits.fill_digits.Statement.{statement}
 use Rattle.buffers.proofs.digits.fill_digits.Tie as tie
@@ -26,21 +26,47 @@ loop-again : tie.Need-loop-again Inv-loop μ-loop
 loop-again c =
     let args = c .before .before .args in
     let l = c .before .loop in
-    (search needs, simp length-set (omega arith), put-digit (l .out) (args .at) (l .i) (l .rest) (search needs) (search needs) ∙ l .inv .2)
+    (search needs, simp length-set (omega arith), put-pair (l .out) (args .at) (l .i) (l .rest) (search needs) (search needs) ∙ l .inv .2)
 
 returns : tie.Need-returns Inv-loop μ-loop
 unfolding lastDigits
 returns c =
-    let args = c .before .before .args in
-    let l = c .before .loop in
-    let a = args in
-    let z : l .i ≡ 0 = omega arith in
-    sym (put-empty (l .out) (a .at) (omega arith)) ∙ ap (λ (k : ℕ). putAt (l .out) (a .at) (lastDigits k (l .rest))) (sym z) ∙ l .inv .2
+    let args = c .before .before .before .args in
+    let l = c .before .before .loop in
+    let one : l .i ≡ 1 = omega arith in
+    put-byte (l .out) (args .at) (48 + l .rest % 10) (omega arith) ∙ ap (λ (k : ℕ). putAt (l .out) (args .at) (lastDigits k (l .rest))) (sym one) ∙ l .inv .2
+
+returns-2 : tie.Need-returns-2 Inv-loop μ-loop
+unfolding lastDigits
+returns-2 c =
+    let args = c .before .before .before .args in
+    let l = c .before .before .loop in
+    let none : l .i ≡ 0 = omega arith in
+    sym (put-empty (l .out) (args .at) (omega arith)) ∙ ap (λ (k : ℕ). putAt (l .out) (args .at) (lastDigits k (l .rest))) (sym none) ∙ l .inv .2
 
 pub fill-digits-spec : {M : Type 1} → statement M
 fill-digits-spec =
     tie.close
     (tie.spec
-    Inv-loop μ-loop loop-holds
-    (λ c. search needs) (λ c. search needs) (λ c. search needs) (λ c. search needs) (λ c. search needs) (λ c. search needs)
-    loop-again (λ c. search needs) returns)
+    Inv-loop
+    μ-loop
+    loop-holds
+    (λ c. search needs)
+    (λ c. search needs)
+    (λ c. search needs)
+    (λ c. search needs)
+    (λ c. search needs)
+    (λ c. search needs)
+    (λ c. search needs)
+    (λ c. search needs)
+    (λ c. search needs)
+    (λ c. simp length-set (omega arith))
+    (λ c. search needs)
+    loop-again
+    (λ c. search needs)
+    (λ c. search needs)
+    (λ c. search needs)
+    (λ c. simp length-set (omega arith))
+    returns
+    (λ c. search needs)
+    returns-2)

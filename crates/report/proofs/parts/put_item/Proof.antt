@@ -7,20 +7,15 @@ use Rattle.report.proofs.parts.put_item.Tie as tie
 
 returns : tie.Need-returns
 returns c =
-    let digits = c .before .before in
-    let point = digits .before .before .before .before in
-    let pounds = point .before .before .before .before .before in
-    let word = pounds .before .before .before .before in
-    if-room (word .put .ensures) then
-    if-room (pounds .put-decimal .ensures) then
-    if-room (point .put2 .ensures) then
-    if-room (digits .put-digits .ensures)
+    let put = c .before .before .before .before .before .before .put in
+    let put-fixed-point = c .before .before .put-fixed-point in
+    if-room (put .ensures) then if-room (put-fixed-point .ensures)
 
 pub put-item-spec : {M : Type 1} → statement M
 put-item-spec =
     tie.close
     (tie.spec
-    (λ c κs. search needs) (λ c κs. search needs)
-    (λ c. search needs) (λ c κs. search needs)
     (λ c κs. search needs)
-    (λ c. search needs) returns)
+    (λ c κs. search needs)
+    (λ c. search needs)
+    returns)
