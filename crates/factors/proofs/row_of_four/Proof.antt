@@ -24,10 +24,7 @@ pub row-of-four-spec : {M : Type 1} → statement M
 row-of-four-spec =
     tie.close
     (tie.spec
-    (λ c. search needs)
-    (λ c. search needs)
-    (λ c. search needs)
-    (λ c κs. search needs)
+    (λ c. search needs) (λ c. search needs) (λ c. search needs) (λ c κs. search needs)
     returns
     returns-2
     returns-3)

@@ -24,10 +24,7 @@ pub row-of-two-spec : {M : Type 1} → statement M
 row-of-two-spec =
     tie.close
     (tie.spec
-    (λ c. search needs)
-    (λ c. search needs)
-    (λ c. search needs)
-    (λ c κs. search needs)
+    (λ c. search needs) (λ c. search needs) (λ c. search needs) (λ c κs. search needs)
     returns
     returns-2
     returns-3)

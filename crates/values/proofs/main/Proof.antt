@@ -61,9 +61,7 @@ main-spec =
     μ-loop
     (λ c κs. search needs)
     loop-holds
-    (λ c κs. search needs)
-    (λ c κs. search needs)
-    (λ c κs. search needs)
+    (λ c κs. search needs) (λ c κs. search needs) (λ c κs. search needs)
     loop-less
     loop-again
     (λ c. search needs))

@@ -33,10 +33,7 @@ pub fill-fixed-point-spec : {M : Type 1} → statement M
 fill-fixed-point-spec =
     tie.close
     (tie.spec
-    (λ c κs. search needs)
-    (λ c. search needs)
-    (λ c. search needs)
-    (λ c. search needs)
+    (λ c κs. search needs) (λ c. search needs) (λ c. search needs) (λ c. search needs)
     (λ c. search needs)
     fill-digits-requires-2
     same-length

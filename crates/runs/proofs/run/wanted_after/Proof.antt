@@ -22,10 +22,7 @@ pub wanted-after-spec : {M : Type 1} → statement M
 wanted-after-spec =
     tie.close
     (tie.spec
-    (λ c. search needs)
-    (λ c κs. search needs)
-    (λ c. search needs)
-    (λ c. search needs)
+    (λ c. search needs) (λ c κs. search needs) (λ c. search needs) (λ c. search needs)
     (λ c κs. search needs)
     returns
     returns-2)

@@ -49,9 +49,7 @@ pub value-block-spec : {M : Type 1} → statement M
 value-block-spec =
     tie.close
     (tie.spec
-    (λ c κs. search needs)
-    (λ c. search needs)
-    (λ c. search needs)
+    (λ c κs. search needs) (λ c. search needs) (λ c. search needs)
     value-well-formed-requires
     returns
     returns-2)

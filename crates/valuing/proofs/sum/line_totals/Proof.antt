@@ -43,10 +43,7 @@ pub line-totals-spec : {M : Type 1} → statement M
 line-totals-spec =
     tie.close
     (tie.spec
-    (λ c. search needs)
-    (λ c κs. search needs)
-    (λ c κs. search needs)
-    (λ c. search needs)
+    (λ c. search needs) (λ c κs. search needs) (λ c κs. search needs) (λ c. search needs)
     (λ c κs. search needs)
     mul-t8
     returns)

@@ -26,9 +26,6 @@ pub totals-by-row-spec : {M : Type 1} → statement M
 totals-by-row-spec =
     tie.close
     (tie.spec
-    (λ c κs. search needs)
-    (λ c κs. search needs)
-    (λ c κs. search needs)
-    (λ c κs. search needs)
+    (λ c κs. search needs) (λ c κs. search needs) (λ c κs. search needs) (λ c κs. search needs)
     line-totals-requires
     returns)

@@ -41,9 +41,7 @@ pub value-spec : {M : Type 1} → statement M
 value-spec =
     tie.close
     (tie.spec
-    (λ c κs. search needs)
-    (λ c. search needs)
-    (λ c. search needs)
+    (λ c κs. search needs) (λ c. search needs) (λ c. search needs)
     value-well-formed-requires
     returns
     returns-2)

@@ -46,10 +46,7 @@ value-amounts-spec =
     tie.close
     (tie.spec
     case-totals-requires
-    (λ c κs. search needs)
-    (λ c κs. search needs)
-    (λ c. search needs)
-    (λ c. search needs)
+    (λ c κs. search needs) (λ c κs. search needs) (λ c. search needs) (λ c. search needs)
     priced-requires
     returns
     returns-2)
