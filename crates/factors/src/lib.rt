@@ -1,7 +1,7 @@
 // The factor tables of the guidance notes, in hundredths, and looking up a row of them.
 ghost use mathlib.Core.Path.{_≡_};
 ghost use Rattle.factors.specs.Rows.{fourColumns, twoColumns, rowNumbers};
-ghost use Rattle.factors.specs.Tables.{rowAt, rowIn};
+ghost use Rattle.factors.specs.Tables.{section1995Table, scheme2015Table, rowAt, rowIn};
 
 // The factors of a line, in hundredths; zero where a kind has none.
 pub struct Factors {
@@ -158,7 +158,7 @@ fn row_of_four(table: &[[u16; 4]], first: u32, key: u32) -> Row
     Row::Absent
 }
 
-// The same in a table of two: with four, half of them zero, there would be twice as much to copy at each use of the table's name.
+// The same in a table of two columns. With four, half of them zero, there would be twice as much to copy.
 fn row_of_two(table: &[[u16; 2]], first: u32, key: u32) -> Row
     ensures { λ r. ⌜ r ≡ rowAt twoColumns first (now (table .entry)) key ⌝ }
 {
@@ -171,14 +171,27 @@ fn row_of_two(table: &[[u16; 2]], first: u32, key: u32) -> Row
     Row::Absent
 }
 
+// Each use of a table's name writes the table out, in the code and in its proof: one function to a table.
+fn section_1995_row(age: u16) -> Row
+    ensures { λ r. ⌜ r ≡ rowAt fourColumns 22 section1995Table age ⌝ }
+{
+    row_of_four(&SECTION_1995, 22, age as u32)
+}
+
+fn scheme_2015_row(ahead: u32) -> Row
+    ensures { λ r. ⌜ r ≡ rowAt twoColumns 1 scheme2015Table ahead ⌝ }
+{
+    row_of_two(&SCHEME_2015, 1, ahead)
+}
+
 // The row of a table, for an age or for years ahead, whichever the table goes by.
 pub fn row_in(table: Table, age: u16, ahead: u32) -> Row
     ensures row { λ r. ⌜ r ≡ rowIn table age ahead ⌝ }
     ensures numbers { λ r. ⌜ rowNumbers r ≡ rowNumbers (rowIn table age ahead) ⌝ }
 {
     match table {
-        Table::Section1995 => row_of_four(&SECTION_1995, 22, age as u32),
-        Table::Scheme2015 => row_of_two(&SCHEME_2015, 1, ahead),
+        Table::Section1995 => section_1995_row(age),
+        Table::Scheme2015 => scheme_2015_row(ahead),
         Table::NoTable => Row::Absent,
     }
 }

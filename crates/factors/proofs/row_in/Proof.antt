@@ -2,18 +2,22 @@
 -- Assumes nothing.
 use mathlib.Core.Path.{refl}
 use borrow.Author.Needs.{needs}
-use Rattle.factors.specs.Tables.{section1995Table, scheme2015Table, rowIn}
+use Rattle.factors.specs.Tables.{rowIn}
 use Rattle.factors.proofs.Tables.{and-numbers}
 use Rattle.factors.proofs.row_in.Statement.{statement}
 use Rattle.factors.proofs.row_in.Tie as tie
 
 returns : tie.Need-returns
-unfolding section1995Table rowIn
-returns c = rw (c .before .before .enum-told .given .1) (and-numbers (c .row-of-four .ensures))
+unfolding rowIn
+returns c =
+    let enum-told = c .before .enum-told in
+    rw (enum-told .given .1) (and-numbers (c .section-1995-row .ensures))
 
 returns-2 : tie.Need-returns-2
-unfolding scheme2015Table rowIn
-returns-2 c = rw (c .before .before .enum-told2 .given .1) (and-numbers (c .row-of-two .ensures))
+unfolding rowIn
+returns-2 c =
+    let enum-told2 = c .before .enum-told2 in
+    rw (enum-told2 .given .1) (and-numbers (c .scheme-2015-row .ensures))
 
 returns-3 : tie.Need-returns-3
 unfolding rowIn
@@ -23,8 +27,9 @@ pub row-in-spec : {M : Type 1} → statement M
 row-in-spec =
     tie.close
     (tie.spec
-    (λ c. search needs) (λ c. search needs) (λ c κs. search needs) (λ c. search needs)
-    (λ c. search needs) (λ c κs. search needs) (λ c. search needs)
+    (λ c. search needs) (λ c κs. search needs)
+    (λ c. search needs) (λ c κs. search needs)
+    (λ c. search needs)
     returns
     returns-2
     returns-3)
