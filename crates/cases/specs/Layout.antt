@@ -92,7 +92,8 @@ entries = map head heads ++ ofLines (λ i. date i ∷ map (amount i) amounts)
 abbrev pub layout : List Field
 layout = map place entries ++ (check ∷ [])
 
--- each field starts no earlier than the one before it ends, the first no earlier than from, and the last ends within size
+-- each field starts no earlier than the one before it ends, the first no earlier than from, and the last ends within size; that this
+-- is so of the layout is the law in-order of `blocks`
 abbrev pub ordered : ℕ → ℕ → List Field → Bool
 ordered from size [] = leb from size
 ordered from size (f ∷ fs) = leb from (f .offset) && ordered (f .offset + f .width) size fs
