@@ -72,7 +72,8 @@ place (amount i a) = amountAt i a wide 8
 abbrev pub check : Field
 check = 508 wide 4
 
--- the fields before the lines, and the amounts of a line, in block order; the laws head-listed and amount-listed say that none is left out
+-- the fields before the lines, and the amounts of a line, in block order; that none is left out is the laws head-listed and
+-- amount-listed
 abbrev pub heads : List Head
 heads =
     kind ∷ number ∷ status ∷ receiver ∷ flags ∷ count ∷ service ∷
