@@ -1,6 +1,6 @@
 #!/usr/bin/env python3
 """Writes a case file of N blocks to standard output, the same for the same N: payable cases of both kinds with one to
-four lines, and one in ten refused.
+four lines, one in ten refused, and some of them at the edges of the rule for 29 February.
 
     make_blocks.py N
 """
@@ -10,6 +10,17 @@ import sys
 
 def date(year, month, day):
     return struct.pack("<HBB", year, month, day)
+
+
+def around_leap_day(i, b, kind, count):
+    """Dates on 29 February, and on days of common years around the one that it falls on."""
+    n = i // 50
+    birth = 1964 + 4 * (n % 7)
+    b[16:20] = date(birth, 2, 29)
+    b[24:28] = date(2019, 2, 27 + n % 2) if kind == 1 else date(2020, 2, 29)
+    if kind == 2:
+        for k in range(count):
+            b[64 + 72 * k:68 + 72 * k] = date(birth + 65 - k, *((2, 27), (2, 28), (3, 1))[n % 3])
 
 
 def block(i):
@@ -31,6 +42,8 @@ def block(i):
         if kind == 1:
             struct.pack_into("<QQ", b, at + 40, 300000 + i % 100000, i % 7 * 10)
         struct.pack_into("<Q", b, at + 56, i % 1000)
+    if i % 50 < 2:
+        around_leap_day(i, b, kind, count)
     if i % 10 == 9:
         b[8] = 1 + i // 10 % 5
     struct.pack_into("<I", b, 508, sum((p + 1) * x for p, x in enumerate(b[:352])))

@@ -67,7 +67,7 @@ static int is_real(struct date d)
 static struct date in_year(unsigned year, struct date d)
 {
     if (d.month == 2 && d.day == 29 && !is_leap(year))
-        return (struct date){year, 3, 1};
+        return (struct date){year, 2, 28};
     return (struct date){year, d.month, d.day};
 }
 

@@ -22,11 +22,11 @@ def day(ymd):
 
 
 def moved(d, years):
-    """The day moved on by years: month and day stay, but 29 February is 1 March in a common year."""
+    """The day moved on by years: month and day stay, but 29 February is 28 February in a common year."""
     try:
         return d.replace(year=d.year + years)
     except ValueError:
-        return datetime.date(d.year + years, 3, 1)
+        return datetime.date(d.year + years, 2, 28)
 
 
 def age(birth, on):
@@ -50,22 +50,28 @@ def pairs():
     yield (2021, 7, 3), (2047, 7, 2), '26 years ahead, a day to spare'
     yield (2021, 7, 3), (2047, 7, 3), '26 years ahead, to the day'
     yield (2021, 7, 3), (2047, 7, 4), '27 years ahead'
-    yield (1968, 2, 29), (2021, 2, 28), 'born on a leap day: age 52'
-    yield (1968, 2, 29), (2021, 3, 1), 'born on a leap day: age 53'
+    yield (1968, 2, 29), (2021, 2, 27), 'born on a leap day: age 52'
+    yield (1968, 2, 29), (2021, 2, 28), 'born on a leap day: age 53'
+    yield (1968, 2, 29), (2021, 3, 1), 'born on a leap day: age 53, a day after the birthday'
     yield (1968, 2, 29), (2020, 2, 28), 'born on a leap day, in a leap year: age 51'
     yield (1968, 2, 29), (2020, 2, 29), 'born on a leap day, in a leap year: age 52'
-    yield (1968, 2, 29), (1969, 2, 28), 'born on a leap day: no birthday yet'
-    yield (1968, 2, 29), (1969, 3, 1), 'born on a leap day: the first birthday'
-    yield (1960, 2, 29), (2025, 2, 28), 'a day before the 65th birthday of a leap day'
-    yield (1960, 2, 29), (2025, 3, 1), 'the 65th birthday of a leap day'
+    yield (1968, 2, 29), (2024, 2, 28), 'born on a leap day, in a leap year: age 55'
+    yield (1968, 2, 29), (2024, 2, 29), 'born on a leap day, in a leap year: age 56'
+    yield (1968, 2, 29), (1969, 2, 27), 'born on a leap day: no birthday yet'
+    yield (1968, 2, 29), (1969, 2, 28), 'born on a leap day: the first birthday'
+    yield (1968, 2, 29), (1969, 3, 1), 'born on a leap day: a day after the first birthday'
+    for birth in (1956, 1960):
+        yield (birth, 2, 29), (birth + 65, 2, 27), 'a day before the 65th birthday of a leap day'
+        yield (birth, 2, 29), (birth + 65, 2, 28), 'the 65th birthday of a leap day'
+        yield (birth, 2, 29), (birth + 65, 3, 1), 'a day after the 65th birthday of a leap day'
     yield (2020, 2, 29), (2045, 2, 28), '25 years ahead, from a leap day'
-    yield (2020, 2, 29), (2045, 3, 1), '25 years ahead, from a leap day'
+    yield (2020, 2, 29), (2045, 3, 1), '26 years ahead, from a leap day'
     yield (2020, 2, 29), (2045, 3, 2), '26 years ahead, from a leap day'
     yield (2020, 2, 28), (2024, 2, 29), '5 years ahead, to a leap day'
     yield (2020, 2, 29), (2048, 2, 29), '28 years ahead, from a leap day to a leap day'
     for year in (1900, 2000, 2100):
         for leap in (1904, 1996, 2000, 2096, 2104):
-            for other in ((year, 2, 28), (year, 2, 29), (year, 3, 1), (year + 4, 2, 29)):
+            for other in ((year, 2, 27), (year, 2, 28), (year, 2, 29), (year, 3, 1), (year + 4, 2, 29)):
                 yield (leap, 2, 29), other, f'leap days around {year}'
                 yield other, (leap, 2, 29), f'leap days around {year}, reversed'
     for a, b in (((2020, 5, 31), born), ((2047, 7, 4), (2021, 7, 3)), ((2021, 7, 3), (2021, 7, 2)), ((2021, 7, 3), (2020, 7, 4))):

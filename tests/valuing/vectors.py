@@ -102,7 +102,7 @@ def moved_on(day, years):
     try:
         return day.replace(year=day.year + years)
     except ValueError:  # 29 February in a common year
-        return datetime.date(day.year + years, 3, 1)
+        return datetime.date(day.year + years, 2, 28)
 
 
 def age(birth, on):
@@ -835,8 +835,12 @@ def dates():
         vector(f"line {i} the day before line 1", only(before[i]), P4, {f"line {i} date": (2045, 5, 9)})
         vector(f"line {i} a year after line 1", 6, P4, {f"line {i} date": (2046, 5, 10)})
     leap = P25 | {"birth": (1980, 2, 29), "guarantee": (2020, 3, 1)}
-    vector("born 29 February 1980, line 1 on 28 February 2045", 6, leap, {"line 1 date": (2045, 2, 28)})
+    vector("born 29 February 1980, line 1 on 27 February 2045", 6, leap, {"line 1 date": (2045, 2, 27)})
+    vector("born 29 February 1980, line 1 on 28 February 2045", P25_PAID, leap, {"line 1 date": (2045, 2, 28)})
     vector("born 29 February 1980, line 1 on 1 March 2045", P25_PAID, leap, {"line 1 date": (2045, 3, 1)})
+    leap = P25 | {"birth": (1956, 2, 29)}
+    vector("born 29 February 1956, line 1 on 27 February 2021", 6, leap, {"line 1 date": (2021, 2, 27)})
+    vector("born 29 February 1956, line 1 on 28 February 2021", only("1,708.00"), leap, {"line 1 date": (2021, 2, 28)})
 
 
 def entitlement():
@@ -891,18 +895,30 @@ def leap_days():
     born = P54 | {"birth": (1968, 2, 29)}
     vector("on 28 February 2020: 51", only("1,685.00"), born, {"guarantee": (2020, 2, 28)})
     vector("on 29 February 2020: 52", only("1,724.00"), born, {"guarantee": (2020, 2, 29)})
-    vector("on 28 February 2022: 53", only("1,764.00"), born, {"guarantee": (2022, 2, 28)})
+    vector("on 27 February 2021: 52", only("1,724.00"), born, {"guarantee": (2021, 2, 27)})
+    vector("on 28 February 2021: 53", only("1,764.00"), born, {"guarantee": (2021, 2, 28)})
+    vector("on 27 February 2022: 53", only("1,764.00"), born, {"guarantee": (2022, 2, 27)})
+    vector("on 28 February 2022: 54", only("1,805.00"), born, {"guarantee": (2022, 2, 28)})
     vector("on 1 March 2022: 54", only("1,805.00"), born, {"guarantee": (2022, 3, 1)})
-    vector("on 28 February 1990: 21", 12, born, {"guarantee": (1990, 2, 28)})
+    vector("on 28 February 2024: 55", only("1,848.00"), born, {"guarantee": (2024, 2, 28)})
+    vector("on 29 February 2024: 56", only("1,892.00"), born, {"guarantee": (2024, 2, 29)})
+    vector("on 27 February 1990: 21", 12, born, {"guarantee": (1990, 2, 27)})
+    vector("on 28 February 1990: 22", only("893.00"), born, {"guarantee": (1990, 2, 28)})
     vector("on 1 March 1990: 22", only("893.00"), born, {"guarantee": (1990, 3, 1)})
     vector("on 28 February 2028: 59", only("2,034.00"), born, {"guarantee": (2028, 2, 28)})
     vector("on 29 February 2028: 60", 11, born, {"guarantee": (2028, 2, 29)})
+    born = P54 | {"birth": (2040, 2, 29), "leaving": (2090, 1, 1)}
+    vector("on 27 February 2100: 59", only("2,034.00"), born, {"guarantee": (2100, 2, 27)})
+    vector("on 28 February 2100: 60", 11, born, {"guarantee": (2100, 2, 28)})
     guarantee = P25 | {"birth": (1970, 1, 1), "guarantee": (2020, 2, 29)}
     vector("to 29 February 2044: 24", only("955.00"), guarantee, {"line 1 date": (2044, 2, 29)})
     vector("to 1 March 2044: 25", only("927.00"), guarantee, {"line 1 date": (2044, 3, 1)})
     vector("to 28 February 2045: 25", only("927.00"), guarantee, {"line 1 date": (2045, 2, 28)})
-    vector("to 1 March 2045: 25", only("927.00"), guarantee, {"line 1 date": (2045, 3, 1)})
+    vector("to 1 March 2045: 26", only("908.00"), guarantee, {"line 1 date": (2045, 3, 1)})
     vector("to 2 March 2045: 26", only("908.00"), guarantee, {"line 1 date": (2045, 3, 2)})
+    guarantee = P25 | {"birth": (2030, 1, 1), "leaving": (2090, 1, 1), "guarantee": (2096, 2, 29)}
+    vector("to 28 February 2100: 4", only("1,572.00"), guarantee, {"line 1 date": (2100, 2, 28)})
+    vector("to 1 March 2100: 5", only("1,522.00"), guarantee, {"line 1 date": (2100, 3, 1)})
     to_leap_day = P25 | {"birth": (1970, 1, 1), "line 1 date": (2044, 2, 29)}
     vector("28 February 2019 to 29 February 2044: 26", only("908.00"), to_leap_day, {"guarantee": (2019, 2, 28)})
     vector("1 March 2019 to 29 February 2044: 25", only("927.00"), to_leap_day, {"guarantee": (2019, 3, 1)})

@@ -7,11 +7,11 @@ use Rattle.numbers.specs.Below.{howMany, fewest}
 use Rattle.calendar.specs.declared.Date.{Date}
 use Rattle.calendar.specs.Dates.{isLeap, before}
 
--- where 29 February falls in a common year: 1 March (house rule)
+-- where 29 February falls in a common year: 28 February (change request No. 2)
 abbrev pub leapDayIn : ℕ → Date
-leapDayIn y = record { year = y; month = 3; day = 1 }
+leapDayIn y = record { year = y; month = 2; day = 28 }
 
--- the date in another year keeps month and day; 29 February in a common year is where the house rule puts it
+-- the date in another year keeps month and day, but for 29 February in a common year
 unfoldable pub inYear : ℕ → Date → Date
 inYear y d =
     cond (eqb (d .month) 2 && eqb (d .day) 29 && not (isLeap y)) (leapDayIn y)

@@ -7,15 +7,15 @@ use crate::Date;
 use crate::day::before;
 use crate::day::is_leap;
 
-// The date in another year: month and day stay, but 29 February is 1 March in a common year.
+// The date in another year: month and day stay, but 29 February is 28 February in a common year.
 fn in_year(year: u16, d: Date) -> Date
     ensures { λ r. ⌜ r ≡ moving.inYear year d ⌝ }
 {
     if (d.month == 2) & (d.day == 29) & !is_leap(year) {
         Date {
             year: year,
-            month: 3,
-            day: 1,
+            month: 2,
+            day: 28,
         }
     } else {
         Date {

@@ -14,6 +14,7 @@ pub fn step_through_calendar() -> Result<u64, String> {
     // 2265 is past the 65th birthday of the last birth.
     while today.year < 2265 {
         let leap = today.year % 400 == 0 || (today.year % 4 == 0 && today.year % 100 != 0);
+        let last_of_february = date(today.year, 2, 28 + leap as i64);
         if day_number(today) != number || date_of(number) != today {
             return Err(format!("calendar: {today:?} and day {number}"));
         }
@@ -21,14 +22,14 @@ pub fn step_through_calendar() -> Result<u64, String> {
             return Err(format!("calendar: {today:?} real or not"));
         }
         let length = match today.month {
-            2 => 28 + leap as i64,
+            2 => last_of_february.day,
             4 | 6 | 9 | 11 => 30,
             _ => 31,
         };
         if is_real(date(today.year, today.month, length + 1)) {
             return Err(format!("calendar: {today:?}, a day past the month"));
         }
-        if !leap && moved_on(date(1904, 2, 29), today.year - 1904) != day_number(date(today.year, 3, 1)) {
+        if moved_on(date(1904, 2, 29), today.year - 1904) != day_number(last_of_february) {
             return Err(format!("calendar: 29 February in {}", today.year));
         }
         today = match (today.day == length, today.month) {
@@ -127,6 +128,8 @@ fn of_the_calendar() -> Vec<(Block, String)> {
     let july = date(1979, 7, 3);
     let leap_1968 = date(1968, 2, 29);
     let leap_1960 = date(1960, 2, 29);
+    let leap_1956 = date(1956, 2, 29);
+    let leap_2020 = date(2020, 2, 29);
     let text = String::from;
     vec![
         // Age 52, and 53 a day later.
@@ -135,14 +138,25 @@ fn of_the_calendar() -> Vec<(Block, String)> {
         // 26 and 27 years ahead.
         (due(july, date(2021, 7, 3), date(2047, 7, 3)), paid("9.08", "9.0800")),
         (due(july, date(2021, 7, 3), date(2047, 7, 4)), paid("8.89", "8.8900")),
-        // Born on a leap day: 58, then 59, then 60 from 29 February of a leap year, and too old.
-        (born(leap_1968, date(2027, 2, 28)), paid("20.00", "19.8500")),
+        // Born on a leap day: 52, and 53 from 28 February of a common year.
+        (born(leap_1968, date(2021, 2, 27)), paid("17.00", "17.2400")),
+        (born(leap_1968, date(2021, 2, 28)), paid("18.00", "17.6400")),
+        // 58, then 59, then 60 from 29 February of a leap year, and too old.
+        (born(leap_1968, date(2027, 2, 27)), paid("20.00", "19.8500")),
+        (born(leap_1968, date(2027, 2, 28)), paid("20.00", "20.3400")),
         (born(leap_1968, date(2027, 3, 1)), paid("20.00", "20.3400")),
         (born(leap_1968, date(2028, 2, 28)), paid("20.00", "20.3400")),
         (born(leap_1968, date(2028, 2, 29)), text("1 1 refused 11 age")),
-        // The 65th birthday of one born on a leap day is 1 March 2025.
-        (due(leap_1960, date(2024, 2, 29), date(2025, 2, 28)), text("1 1 refused 6 dates")),
-        (due(leap_1960, date(2024, 2, 29), date(2025, 3, 1)), paid("17.08", "17.0800")),
+        // 25 and 26 years ahead of a leap day.
+        (due(july, leap_2020, date(2045, 2, 28)), paid("9.27", "9.2700")),
+        (due(july, leap_2020, date(2045, 3, 1)), paid("9.08", "9.0800")),
+        // The 65th birthday of one born on a leap day is 28 February.
+        (due(leap_1956, leap_2020, date(2021, 2, 27)), text("1 1 refused 6 dates")),
+        (due(leap_1956, leap_2020, date(2021, 2, 28)), paid("17.08", "17.0800")),
+        (due(leap_1956, leap_2020, date(2021, 3, 1)), paid("16.65", "16.6500")),
+        (due(leap_1960, date(2024, 2, 29), date(2025, 2, 27)), text("1 1 refused 6 dates")),
+        (due(leap_1960, date(2024, 2, 29), date(2025, 2, 28)), paid("17.08", "17.0800")),
+        (due(leap_1960, date(2024, 2, 29), date(2025, 3, 1)), paid("16.65", "16.6500")),
         (due(leap_1960, date(2024, 2, 29), date(2025, 3, 2)), paid("16.65", "16.6500")),
         // One day before the line's date, and on it.
         (due(leap_1960, date(2025, 2, 28), date(2025, 3, 1)), paid("17.08", "17.0800")),

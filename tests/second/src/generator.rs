@@ -285,7 +285,8 @@ pub fn acceptable_kind_1(model: &Model, random: &mut Random) -> Block {
 /// The latest birth whose 65th birthday is not after this day.
 fn latest_birth(line_1: i64) -> i64 {
     let d = date_of(line_1);
-    let mut birth = day_number(date(d.year - 65, d.month, d.day));
+    // From a day later: two days may have one birthday, 28 February of a common year.
+    let mut birth = day_number(date(d.year - 65, d.month, d.day)) + 1;
     while moved_on(date_of(birth), 65) > line_1 {
         birth -= 1;
     }

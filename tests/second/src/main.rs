@@ -12,18 +12,20 @@ mod library;
 mod model;
 mod properties;
 mod random;
+mod rules;
 mod trial;
 
 use library::*;
 use model::*;
+use rules::RULES;
 use std::process::ExitCode;
 use std::time::Instant;
 use trial::*;
 
-/// Each refusal and each kind's payment must be reached as often as this.
+/// Each refusal, each kind's payment and each rule must be reached as often as this.
 const LEAST_REACHED: u64 = 100;
 
-/// How often each answer and each row of factors was reached.
+/// How often each answer, each row of factors and each rule was reached.
 #[derive(Default)]
 struct Reached {
     sorts: [u64; SORTS.len()],
@@ -32,6 +34,7 @@ struct Reached {
     underpin_paid: u64,
     ages: Vec<u64>,
     years: Vec<u64>,
+    rules: [u64; RULES.len()],
     longest_line: usize,
 }
 
@@ -52,8 +55,15 @@ impl Reached {
         }
     }
 
+    fn count_rules(&mut self, block: &[u8], answer: &Result<Payment, Refusal>) {
+        let case = case_of(block);
+        for (n, (_, stands)) in self.rules.iter_mut().zip(RULES) {
+            *n += stands(&case, answer) as u64;
+        }
+    }
+
     fn enough(&self) -> bool {
-        self.refusals[1..].iter().chain(&self.paid[1..]).all(|&n| n >= LEAST_REACHED)
+        self.refusals[1..].iter().chain(&self.paid[1..]).chain(&self.rules).all(|&n| n >= LEAST_REACHED)
             && self.ages[22..].iter().chain(&self.years[1..]).all(|&n| n > 0)
     }
 
@@ -70,6 +80,9 @@ impl Reached {
         println!("  {:<28}{:>10}", "of these the underpin", self.underpin_paid);
         println!("  {:<28}{:>10}", "each age 22 to 59, at least", self.ages[22..].iter().min().unwrap());
         println!("  {:<28}{:>10}", "each year 1 to 50, at least", self.years[1..].iter().min().unwrap());
+        for ((name, _), n) in RULES.iter().zip(self.rules) {
+            println!("  {name:<28}{n:>10}");
+        }
         println!("  {:<28}{:>10}", "bytes of the longest line", self.longest_line);
     }
 }
@@ -123,6 +136,9 @@ fn compare(model: &Model, blocks: u64, seed: u64) -> Result<Reached, String> {
         }
         reached.sorts[trial.sort] += 1;
         reached.longest_line = reached.longest_line.max(line.len());
+        if trial.length == BLOCK_LENGTH {
+            reached.count_rules(trial.block(), &answer);
+        }
         match answer {
             Ok(payment) => reached.count_payment(model, trial.block(), &payment),
             Err(refusal) => reached.refusals[refusal] += 1,
@@ -187,7 +203,7 @@ fn compare_and_report(blocks: u64, seed: u64, factors: &str) -> Result<(), Strin
     let all = start.elapsed().as_secs_f64();
     println!("seed {seed}; comparing took {:.1} s, everything {all:.1} s", compared.as_secs_f64());
     if !reached.enough() {
-        return Err("some answer or row was not reached often enough".into());
+        return Err("some answer, row or rule was not reached often enough".into());
     }
     println!("no difference");
     Ok(())

@@ -86,9 +86,15 @@ pub fn date_of(number: i64) -> Date {
     }
 }
 
-/// The day number of a date moved on by years. 29 February of a common year has the day number of 1 March.
+/// The day number of a date moved on by years. 29 February of a common year would have that of 1 March; it falls on the day before.
 pub fn moved_on(d: Date, years: i64) -> i64 {
-    day_number(date(d.year + years, d.month, d.day))
+    let kept = date(d.year + years, d.month, d.day);
+    let number = day_number(kept);
+    if date_of(number) == kept {
+        number
+    } else {
+        number - 1
+    }
 }
 
 pub fn first_day() -> i64 {

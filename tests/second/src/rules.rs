@@ -1,0 +1,34 @@
+//! Rules that no refusal and no row of factors shows to have been reached, each at both sides of its edge.
+
+use crate::model::*;
+
+type Answer = Result<Payment, Refusal>;
+
+/// A rule's name, and whether a block with this case and this answer stands at its edge.
+pub const RULES: [(&str, fn(&Case, &Answer) -> bool); 6] = [
+    ("born 29 Feb, aged at 27 Feb", |case, answer| aged(case, 27) && answer.is_ok()),
+    ("born 29 Feb, aged at 28 Feb", |case, answer| aged(case, 28) && answer.is_ok()),
+    ("65 on 28 Feb, line on 27 Feb", |case, answer| aged_65(case, 27) && matches!(answer, Err(6))),
+    ("65 on 28 Feb, line on 28 Feb", |case, answer| aged_65(case, 28) && answer.is_ok()),
+    ("ahead, 29 Feb to 28 Feb", |case, answer| answer.is_ok() && ahead(case, 2, 28)),
+    ("ahead, 29 Feb to 1 March", |case, answer| answer.is_ok() && ahead(case, 3, 1)),
+];
+
+/// Whether the first is 29 February and the second this day of a common year.
+fn from_leap_day(first: Date, second: Date, month: i64, day: i64) -> bool {
+    let common = !is_real(date(second.year, 2, 29));
+    (first.month, first.day) == (2, 29) && common && (second.month, second.day) == (month, day)
+}
+
+fn aged(case: &Case, day: i64) -> bool {
+    case.kind == 1 && from_leap_day(case.birth, case.guarantee, 2, day)
+}
+
+fn aged_65(case: &Case, day: i64) -> bool {
+    let line_1 = case.lines[0].date;
+    case.kind == 2 && line_1.year == case.birth.year + 65 && from_leap_day(case.birth, line_1, 2, day)
+}
+
+fn ahead(case: &Case, month: i64, day: i64) -> bool {
+    case.kind == 2 && case.used().iter().any(|line| from_leap_day(case.guarantee, line.date, month, day))
+}
