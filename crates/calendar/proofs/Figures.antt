@@ -12,7 +12,7 @@ use Rattle.calendar.specs.Moving.{inYear, movedOn, age, yearsAhead}
 abbrev date : ℕ → ℕ → ℕ → Date
 date d m y = record { year = y; month = m; day = d }
 
--- 29 February in leap years; in common years, of which 2100 is one, 28 February: there the 65th birthday is one
+-- where a birthday on 29 February falls in leap years and in common years, of which 2100 is one; a 65th birthday
 pub birthdays :
     (movedOn 52 (date 29 2 1968) ≡ date 29 2 2020) × (movedOn 56 (date 29 2 1968) ≡ date 29 2 2024) ×
     (movedOn 53 (date 29 2 1968) ≡ date 28 2 2021) × (movedOn 65 (date 29 2 1956) ≡ date 28 2 2021) ×
