@@ -1,6 +1,6 @@
 #!/usr/bin/env python3
-"""Writes a case file of N blocks to standard output, the same for the same N: payable cases of both kinds with one to
-four lines, one in ten refused, and some of them at the edges of the rule for 29 February.
+"""Writes a case file of N blocks to standard output, the same for the same N: cases of both kinds with one to four
+lines, about one in twelve of them refused, and one in twenty-five dated around 29 February.
 
     make_blocks.py N
 """

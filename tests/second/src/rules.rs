@@ -1,4 +1,4 @@
-//! Rules that no refusal and no row of factors shows to have been reached, each at both sides of its edge.
+//! Rules that the counts of refusals and of rows do not show as reached, each at both sides of its edge.
 
 use crate::model::*;
 
