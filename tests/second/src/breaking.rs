@@ -231,7 +231,7 @@ fn line_1_early(model: &Model, random: &mut Random, block: &mut Block) {
     if block.kind() != 2 {
         return birth_not_before_leaving(model, random, block);
     }
-    if random.one_in(4) {
+    if random.one_in(2) {
         let birth = block.get_date(at::BIRTH).year;
         let leap = date(birth - birth.rem_euclid(4), 2, 29);
         if is_real(leap) {

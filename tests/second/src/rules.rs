@@ -8,7 +8,7 @@ type Answer = Result<Payment, Refusal>;
 pub const RULES: [(&str, fn(&Case, &Answer) -> bool); 6] = [
     ("born 29 Feb, aged at 27 Feb", |case, answer| aged(case, 27) && answer.is_ok()),
     ("born 29 Feb, aged at 28 Feb", |case, answer| aged(case, 28) && answer.is_ok()),
-    ("65 on 28 Feb, line on 27 Feb", |case, answer| aged_65(case, 27) && matches!(answer, Err(6))),
+    ("65 on 28 Feb, line on 27 Feb", |case, answer| aged_65(case, 27) && matches!(answer, Err(6)) && alone(case)),
     ("65 on 28 Feb, line on 28 Feb", |case, answer| aged_65(case, 28) && answer.is_ok()),
     ("ahead, 29 Feb to 28 Feb", |case, answer| answer.is_ok() && ahead(case, 2, 28)),
     ("ahead, 29 Feb to 1 March", |case, answer| answer.is_ok() && ahead(case, 3, 1)),
@@ -27,6 +27,13 @@ fn aged(case: &Case, day: i64) -> bool {
 fn aged_65(case: &Case, day: i64) -> bool {
     let line_1 = case.lines[0].date;
     case.kind == 2 && line_1.year == case.birth.year + 65 && from_leap_day(case.birth, line_1, 2, day)
+}
+
+/// Whether refusal 6 has no other cause than the 65th birthday.
+fn alone(case: &Case) -> bool {
+    let [birth, leaving, guarantee] = [case.birth, case.leaving, case.guarantee].map(day_number);
+    let line_1 = day_number(case.lines[0].date);
+    birth < leaving && leaving <= guarantee && case.used()[1..].iter().all(|line| day_number(line.date) < line_1)
 }
 
 fn ahead(case: &Case, month: i64, day: i64) -> bool {
