@@ -1,6 +1,7 @@
 #!/usr/bin/env python3
 """Writes a case file of N blocks to standard output, the same for the same N: cases of both kinds with one to four
-lines, about one in twelve of them refused, and one in twenty-five dated around 29 February.
+lines, about one in twelve of them refused, one in twenty-five dated around 29 February, and one in twenty with a
+transfer in.
 
     make_blocks.py N
 """
@@ -44,6 +45,9 @@ def block(i):
         struct.pack_into("<Q", b, at + 56, i % 1000)
     if i % 50 < 2:
         around_leap_day(i, b, kind, count)
+    if i % 20 == 3:
+        b[10] = 1
+        struct.pack_into("<QQ", b, 48, i * 97 % 20_000_000, i * 31 % 5_000_000)
     if i % 10 == 9:
         b[8] = 1 + i // 10 % 5
     struct.pack_into("<I", b, 508, sum((p + 1) * x for p, x in enumerate(b[:352])))

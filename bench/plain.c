@@ -211,7 +211,7 @@ static int value(const struct record *c, struct items *m)
         return 14;
     uint64_t gross = (pension + lump + survivor - deduction + 50) / 100;
     uint64_t underpin = c->flags & 1 ? c->transfer + c->contributions : 0;
-    uint64_t paid = c->kind == 1 ? (gross + 50) / 100 * 100 : gross > underpin ? gross : underpin;
+    uint64_t paid = gross > underpin ? gross : underpin;
     *m = (struct items){paid + c->avc, pension, lump, survivor, deduction, underpin, c->avc};
     return 0;
 }

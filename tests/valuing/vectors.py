@@ -286,14 +286,10 @@ def valued(case):
     pension, lump, survivor, deduction = (amount * 100 for amount in items(case))
     gross = nearest(signed_total(case))
     underpin = 0
-    if case["kind"] == 1:
-        payment = nearest(Fraction(gross, 100)) * 100
-    else:
-        if case["flags"] & 1:
-            underpin = case["transfer-in"] + case["own contributions"]
-        payment = max(gross, underpin)
+    if case["kind"] == 2 and case["flags"] & 1:
+        underpin = case["transfer-in"] + case["own contributions"]
     return {
-        "pay": payment + case["AVC"],
+        "pay": max(gross, underpin) + case["AVC"],
         "pension": pension,
         "lump": lump,
         "survivor": survivor,
@@ -520,15 +516,16 @@ def figures_at_the_edges():
     vector("84,375p at 1.0660 is 89,944p", paid("1,196.26", survivor="1,196.2552"), AHEAD_25, {
         "revaluation": 10_660, "line 1 survivor": 84_375,
     }, wrong="1,196.25")
-    vector("1p at 1.5000 is 2p, kind 1", paid("0", pension="0.3610"), AGED_54, {
+    vector("1p at 1.5000 is 2p, kind 1", paid("0.36", pension="0.3610"), AGED_54, {
         "revaluation": 15_000, "line 1 pension": 1,
-    })
+    }, wrong="0.18")
     vector("1p at 1.5000 is 2p, kind 2", paid("0.19", pension="0.1854"), AHEAD_25, {
         "revaluation": 15_000, "line 1 pension": 1,
     }, wrong="0.09")
-    vector("10p pension and 1p survivor at 54", paid("2.00", pension="1.8050", survivor="0.0150"), AGED_54, {
+    # 180.5 + 1.5 pence
+    vector("10p pension and 1p survivor at 54", paid("1.82", pension="1.8050", survivor="0.0150"), AGED_54, {
         "line 1 pension": 10, "line 1 survivor": 1,
-    })
+    }, wrong="1.83")
     vector("pension 100p, debit 100p", paid("0"), AGED_54, {"line 1 pension": 100, "line 1 pension debit": 100})
     vector("pension 100p, debit 101p", 13, AGED_54, {"line 1 pension": 100, "line 1 pension debit": 101})
     vector("no benefit and 1p modification", 14, AGED_54, {"line 1 modification": 1})
@@ -554,18 +551,18 @@ def figures_at_the_edges():
 def examples():
     """Each prints its result; with 01's sum each comes to the same."""
     group("examples")
-    # prints £136,868.93 and £136,869
+    # prints £136,868.93 and, rounded once more, £136,869
     vector("001, A", paid(
-        "136,869.00", pension="117,921.6000", lump="14,364.0000", survivor="4,817.9250", deduct="234.6000",
-    ), A_001)
+        "136,868.93", pension="117,921.6000", lump="14,364.0000", survivor="4,817.9250", deduct="234.6000",
+    ), A_001, wrong="136,869.00")
     # 001's Example E is a member with reserved rights, which are left to the desk. Its parts (2) and (3) are kind 1 as it
-    # stands, before rounding to whole pounds £20,305.40 and £52,804.14.
+    # stands: £20,305.40 and £52,804.14.
     part = AGED_54 | {"birth": (1958, 1, 1), "leaving": (1990, 1, 1), "guarantee": (2012, 1, 1), "revaluation": 19_703}
     vector("001, E, part 2 by itself", paid(
-        "20,305.00", pension="17,094.7940", lump="2,500.30", survivor="710.31",
+        "20,305.40", pension="17,094.7940", lump="2,500.30", survivor="710.31",
     ), part, {"line 1 pension": 480_68, "line 1 lump sum": 1_442_04, "line 1 survivor": 240_34})
     vector("001, E, part 3 by itself", paid(
-        "52,804.00", pension="44,454.9840", lump="6,501.9944", survivor="1,847.16",
+        "52,804.14", pension="44,454.9840", lump="6,501.9944", survivor="1,847.16",
     ), part, {"line 1 pension": 1_250_00, "line 1 lump sum": 3_750_00, "line 1 survivor": 625_00})
     vector("003, A", paid("78,210.29", pension="74,941.44", survivor="3,268.8480"), A_003)
     vector("003, B", paid("25,900.81", **B_PAID), B_003)
@@ -582,10 +579,10 @@ def examples():
 def clerks():
     group("sums clerks have got wrong")
     vector("survivor's pension is rounded when revalued", paid("25,900.81", **B_PAID), B_003, wrong="25,900.80")
-    # 180.5 + 268.5 pence; 181 + 269 is the next pound
-    vector("items are not rounded, kind 1", paid("4.00", pension="1.8050", survivor="2.6850"), AGED_54, {
+    # 180.5 + 268.5 pence
+    vector("items are not rounded, kind 1", paid("4.49", pension="1.8050", survivor="2.6850"), AGED_54, {
         "line 1 pension": 10, "line 1 survivor": 179,
-    }, wrong="5.00")
+    }, wrong="4.50")
     # 463.5 + 66.5 pence
     vector("items are not rounded, kind 2", paid("5.30", pension="4.6350", survivor="0.6650"), AHEAD_25, {
         "line 1 pension": 50, "line 1 survivor": 50,
@@ -607,30 +604,29 @@ def clerks():
     vector("halves go up, revaluation, to even", paid("0.19", pension="0.1854"), AHEAD_25, {
         "revaluation": 15_000, "line 1 pension": 1,
     }, wrong="0.09")
-    # 250 and 150 pence
-    vector("halves go up, whole pounds, to odd", paid("3.00", lump="2.20", survivor="0.30"), AGED_54, {
+    vector("kind 1, 250 pence", paid("2.50", lump="2.20", survivor="0.30"), AGED_54, {
         "line 1 lump sum": 250, "line 1 survivor": 20,
-    }, wrong="2.00")
-    vector("halves go up, whole pounds, to even", paid("2.00", survivor="1.50"), AGED_54, {
+    }, wrong="3.00")
+    vector("kind 1, 150 pence", paid("1.50", survivor="1.50"), AGED_54, {
         "line 1 survivor": 100,
-    }, wrong="1.00")
+    }, wrong="2.00")
     vector("no underpin without a transfer in", paid("25,900.81", **B_PAID), B_003, {
         "own contributions": 30_000_00,
     }, wrong="30,000.00")
     doubled = AGED_54 | {"revaluation": 20_000}
     # (200 - 50) at 18.05; 100 at 18.05 if the debit were revalued
-    vector("the debit is not revalued", paid("2,708.00", pension="2,707.50"), doubled, {
+    vector("the debit is not revalued", only("2,707.50"), doubled, {
         "line 1 pension": 100_00, "line 1 pension debit": 50_00,
     }, wrong="1,805.00")
     # (200 - 60) at 0.88
-    vector("the lump sum debit is not revalued", paid("123.00", lump="123.20"), doubled, {
+    vector("the lump sum debit is not revalued", paid("123.20", lump="123.20"), doubled, {
         "line 1 lump sum": 100_00, "line 1 lump sum debit": 60_00,
-    }, wrong="70.00")
+    }, wrong="70.40")
     # 200 at 18.05, less 10 at 12.42
-    vector("the modification is not revalued", paid("3,486.00", pension="3,610.00", deduct="124.20"), doubled, {
+    vector("the modification is not revalued", paid("3,485.80", pension="3,610.00", deduct="124.20"), doubled, {
         "line 1 pension": 100_00, "line 1 modification": 10_00,
-    }, wrong="3,362.00")
-    vector("a debit above the amount before revaluation", paid("903.00", pension="902.50"), doubled, {
+    }, wrong="3,361.60")
+    vector("a debit above the amount before revaluation", only("902.50"), doubled, {
         "line 1 pension": 100_00, "line 1 pension debit": 150_00,
     })
     # (200 - 50) at 9.27
@@ -704,8 +700,8 @@ def reserved_amounts():
     for i in LINES:
         for name in ("lump sum", "modification", "lump sum debit"):
             vector(f"kind 2, line {i} {name} 1p", 4, P4, {f"line {i} {name}": 1})
-    vector("kind 1, lump sum 1p", paid("1,805.00", pension="1,805.00", lump="0.0088"), P54, {"line 1 lump sum": 1})
-    vector("kind 1, modification 1p", paid("1,805.00", pension="1,805.00", deduct="0.1242"), P54, {"line 1 modification": 1})
+    vector("kind 1, lump sum 1p", paid("1,805.01", pension="1,805.00", lump="0.0088"), P54, {"line 1 lump sum": 1})
+    vector("kind 1, modification 1p", paid("1,804.88", pension="1,805.00", deduct="0.1242"), P54, {"line 1 modification": 1})
     vector("kind 1, lump sum and debit 1p", P54_PAID, P54, {"line 1 lump sum": 1, "line 1 lump sum debit": 1})
     for i in (2, 3, 4):
         vector(f"line {i} additional pension 1p", 4, P4, {f"line {i} additional pension": 1})
@@ -926,7 +922,7 @@ def leap_days():
 
 def debits():
     group("13 debit")
-    vector("pension 100p, debit 99p", paid("0", pension="0.1805"), AGED_54, {
+    vector("pension 100p, debit 99p", paid("0.18", pension="0.1805"), AGED_54, {
         "line 1 pension": 100, "line 1 pension debit": 99,
     })
     both = AGED_54 | {"line 1 pension": 60, "line 1 additional pension": 40}
@@ -949,7 +945,7 @@ def debits():
         "line 1 pension debit": 100_00, "line 1 survivor": 100_00,
     })
     # 100.00 less 30.00 at 18.05, 100.00 less 40.00 at 0.88, 100.00 at 1.50
-    vector("each debit off its own benefit", paid("1,466.00", pension="1,263.50", lump="52.80", survivor="150.00"), P54, {
+    vector("each debit off its own benefit", paid("1,466.30", pension="1,263.50", lump="52.80", survivor="150.00"), P54, {
         "line 1 lump sum": 100_00, "line 1 survivor": 100_00, "line 1 pension debit": 30_00, "line 1 lump sum debit": 40_00,
     })
     without = {1: "2,953.00", 2: "2,925.00", 3: "2,896.00", 4: "2,866.00"}
@@ -1005,15 +1001,15 @@ def rounding():
     })
     # kind 1: pence of lump sum, survivor and pension at 0.88, 1.50 and 18.05, in hundredths of a penny 4900, 4950, ..
     for total, pay, pension, lump, survivor, modification in (
-        ("49.00", "0", 0, 25, 18, 0),
-        ("49.50", "1.00", 0, 0, 33, 0),
-        ("50.00", "1.00", 0, 50, 4, 0),
-        ("149.00", "1.00", 0, 125, 26, 0),
-        ("149.49", "1.00", 1, 88, 36, 0),
-        ("149.50", "2.00", 0, 100, 41, 0),
-        ("150.00", "2.00", 0, 0, 100, 0),
-        ("149.49 with a deduction", "1.00", 1, 97, 39, 1),
-        ("149.50 with a deduction", "2.00", 0, 184, 0, 1),
+        ("49.00", "0.49", 0, 25, 18, 0),
+        ("49.50", "0.50", 0, 0, 33, 0),
+        ("50.00", "0.50", 0, 50, 4, 0),
+        ("149.00", "1.49", 0, 125, 26, 0),
+        ("149.49", "1.49", 1, 88, 36, 0),
+        ("149.50", "1.50", 0, 100, 41, 0),
+        ("150.00", "1.50", 0, 0, 100, 0),
+        ("149.49 with a deduction", "1.49", 1, 97, 39, 1),
+        ("149.50 with a deduction", "1.50", 0, 184, 0, 1),
     ):
         stated = {
             "pension": "0.1805" if pension else "0",
@@ -1021,7 +1017,7 @@ def rounding():
             "survivor": f"{survivor * 150}/10000",
             "deduct": "0.1242" if modification else "0",
         }
-        vector(f"kind 1, whole pounds of {total} pence", paid(pay, **stated), AGED_54, {
+        vector(f"kind 1, {total} pence", paid(pay, **stated), AGED_54, {
             "line 1 pension": pension, "line 1 lump sum": lump, "line 1 survivor": survivor,
             "line 1 modification": modification,
         })
@@ -1029,8 +1025,8 @@ def rounding():
     vector("1p pension at 1.4999", paid("0.09", pension="0.0927"), AHEAD_25, low | {"line 1 pension": 1})
     vector("1p survivor at 1.4999", paid("0.01", survivor="0.0133"), AHEAD_25, low | {"line 1 survivor": 1})
     vector("1p survivor at 1.5000", paid("0.03", survivor="0.0266"), AHEAD_25, half | {"line 1 survivor": 1})
-    vector("1p lump sum at 1.4999", paid("0", lump="0.0088"), AGED_54, low | {"line 1 lump sum": 1})
-    vector("1p lump sum at 1.5000", paid("0", lump="0.0176"), AGED_54, half | {"line 1 lump sum": 1})
+    vector("1p lump sum at 1.4999", paid("0.01", lump="0.0088"), AGED_54, low | {"line 1 lump sum": 1})
+    vector("1p lump sum at 1.5000", paid("0.02", lump="0.0176"), AGED_54, half | {"line 1 lump sum": 1})
     vector("1p and 1p additional at 1.5000 are 3p", paid("0.28", pension="0.2781"), AHEAD_25, half | {
         "line 1 pension": 1, "line 1 additional pension": 1,
     }, wrong="0.37")
@@ -1145,10 +1141,11 @@ def underpin():
 
 def voluntary_fund():
     group("AVC")
-    vector("kind 1, not rounded to whole pounds", paid("136,869.49", pension="117,921.60", lump="14,364.00",
-           survivor="4,817.9250", deduct="234.60", avc="0.49"), A_001, {"AVC": 49}, wrong="136,869.00")
+    # 13,686,893 pence and 49
+    vector("kind 1, added to the gross value", paid("136,869.42", pension="117,921.60", lump="14,364.00",
+           survivor="4,817.9250", deduct="234.60", avc="0.49"), A_001, {"AVC": 49}, wrong="136,869.49")
     # 149 pence and 1 penny
-    vector("kind 1, added after rounding", paid("1.01", lump="1.10", survivor="0.39", avc="0.01"), AGED_54, {
+    vector("kind 1, a penny to the half of a pound", paid("1.50", lump="1.10", survivor="0.39", avc="0.01"), AGED_54, {
         "line 1 lump sum": 125, "line 1 survivor": 26, "AVC": 1,
     }, wrong="2.00")
     vector("kind 2, added to the gross value", paid("26,000.80", avc="99.99", **B_PAID), B_003, {"AVC": 99_99})
@@ -1216,6 +1213,16 @@ def order():
     vector("status 2 and receiver not listed", 5, P54, {"status": 2, "receiving scheme": 4})
 
 
+def to_the_penny():
+    group("kind 1, to the penny")
+    vector("a half penny goes up, to odd", paid("1.81", pension="1.8050"), AGED_54, {"line 1 pension": 10}, wrong="1.80")
+    vector("a half penny goes up, to even", paid("0.02", survivor="0.0150"), AGED_54, {"line 1 survivor": 1}, wrong="0.01")
+    # 54,150,000 + 6,600,001.76 + 498,027 pence
+    vector("more pounds and pence than a 32-bit float holds", paid(
+        "612,480.29", pension="541,500.00", lump="66,000.0176", survivor="4,980.27",
+    ), AGED_54, {"line 1 pension": 30_000_00, "line 1 lump sum": 75_000_02, "line 1 survivor": 3_320_18}, wrong="612,480.31")
+
+
 def main():
     commands = ("stdin", "stdout", "list")
     if len(sys.argv) != 2 or sys.argv[1] not in commands:
@@ -1224,6 +1231,7 @@ def main():
     for vectors in (
         figures_at_the_edges, examples, clerks, every_row, kind, flags, reserved_amounts, codes, amounts, days, dates,
         entitlement, ages, leap_days, debits, negative, rounding, several_lines, largest, underpin, voluntary_fund, order,
+        to_the_penny,
     ):
         vectors()
     if FAULTS:

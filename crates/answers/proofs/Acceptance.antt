@@ -1,9 +1,15 @@
 -- What acceptance gives: the payment.
 -- Assumes nothing.
-use mathlib.Core.Path.{_≡_, ap}
-use Rattle.refusals.proofs.Order.{none-first}
+use Prim.Native.Nat.{_+_}
+use mathlib.Core.Bool.{false}
+use mathlib.Core.Path.{_≡_, ap, _∙_}
+use Rattle.refusals.proofs.Order.{none-first, none-given}
+use Rattle.refusals.specs.declared.Refusal.the-variants.{Reserved}
+use Rattle.cases.specs.Kinds.{rulesOf}
+use Rattle.cases.proofs.Transfers.{no-transfer-flag}
 use Rattle.cases.specs.declared.Case.{Case}
 use Rattle.sums.specs.Payment.{payment}
+use Rattle.sums.proofs.Payment.{payment-unflagged}
 use Rattle.answers.specs.declared.Outcome.the-variants.{Paid}
 use Rattle.answers.specs.Answer.{Accepted, tests, grossOf, itemsOf, answerOf, paid}
 
@@ -15,3 +21,8 @@ accepted-paid c n = rw (none-first (tests c) n)
 pub accepted-payment : (c : Case) → Accepted c → paid (answerOf c) ≡ payment c (grossOf c)
 unfolding itemsOf
 accepted-payment c n = ap paid (accepted-paid c n)
+
+-- of a kind without transfers, such as kind 1, that is the gross value and the AVC
+pub accepted-gross : (c : Case) → rulesOf (c .kind) .transfers ≡ false → Accepted c → paid (answerOf c) ≡ grossOf c + c .avc
+unfolding tests
+accepted-gross c k n = accepted-payment c n ∙ payment-unflagged c (grossOf c) (no-transfer-flag c k (none-given Reserved (tests c) n))

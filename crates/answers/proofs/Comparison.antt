@@ -92,7 +92,7 @@ module _ (i : ℕ) (a : Amount) (c d : Case) (alike : AlikeBut (amount i a) c d)
 
   payment-same : (g : ℕ) → payment c g ≡ payment d g
   unfolding payment underpin
-  payment-same g = cc (heads layout.kind, heads layout.flags, heads layout.transfer, heads layout.contributions, heads layout.avc)
+  payment-same g = cc (heads layout.flags, heads layout.transfer, heads layout.contributions, heads layout.avc)
 
   rate-same : c .revaluation ≡ d .revaluation
   rate-same = cc (heads layout.revaluation)

@@ -119,11 +119,11 @@ abbrev pub figures : List Figure
 figures =
     (number (revalued 10660 84375) ∷ [] is number 89944 ∷ []) ∷
     (number (revalued 15000 1) ∷ [] is number 2 ∷ []) ∷
-    (totalOf exampleA ∷ answered exampleA ∷ [] is number 1368689250 ∷ paid 13686893 13686900 ∷ []) ∷
+    (totalOf exampleA ∷ answered exampleA ∷ [] is number 1368689250 ∷ paid 13686893 13686893 ∷ []) ∷
     (amountOf memberPension exampleC ∷ factorOf memberPension exampleC ∷
     amountOf survivorPension exampleC ∷ factorOf survivorPension exampleC ∷ answered exampleC ∷ []
     is number 367360 ∷ number 1665 ∷ number 123984 ∷ number 160 ∷ paid 6314918 6314918 ∷ []) ∷
-    (number (ageOf tenPence) ∷ answered tenPence ∷ [] is number 54 ∷ paid 182 200 ∷ []) ∷
+    (number (ageOf tenPence) ∷ answered tenPence ∷ [] is number 54 ∷ paid 182 182 ∷ []) ∷
     (answered (aged54 (100 of pension ∷ 100 of schemePays ∷ [])) ∷ answered (aged54 (100 of pension ∷ 101 of schemePays ∷ [])) ∷ []
     is paid 0 0 ∷ refused 13 ∷ []) ∷
     (answered (aged54 (1 of modification ∷ [])) ∷ [] is refused 14 ∷ []) ∷

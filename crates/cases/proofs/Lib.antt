@@ -1,3 +1,4 @@
 pub mod Entries
 pub mod RowsOfKinds
 pub mod PastCount
+pub mod Transfers

@@ -18,7 +18,3 @@ no-row (suc k) past = sym (List·getD-eq-default kinds noKind (past (omega arith
 pub four-lines : (k : ℕ) → rulesOf k .lines ≤ 4
 unfolding rulesOf
 four-lines = every-at {P = λ r. r .lines ≤ 4} (λ r. leb (r .lines) 4) kinds noKind (λ r. leb-true (r .lines) 4) (omega arith) refl
-
-pub unit-small : (k : ℕ) → rulesOf k .unit ≤ 100
-unfolding rulesOf
-unit-small = every-at {P = λ r. r .unit ≤ 100} (λ r. leb (r .unit) 100) kinds noKind (λ r. leb-true (r .unit) 100) (omega arith) refl

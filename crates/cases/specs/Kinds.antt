@@ -1,4 +1,4 @@
--- What sets the kinds of case apart: one row to a kind, which the refusals, the choice of factors and step 5 of the sum go by.
+-- What sets the kinds of case apart: one row to a kind, which the refusals and the choice of factors go by.
 -- Assumes nothing.
 use Prim.Native.Nat.{ℕ}
 use mathlib.Core.Bool.{true, false}
@@ -7,7 +7,7 @@ use lib.ListN.{getD}
 use Rattle.factors.specs.declared.Table.the-variants.{Section1995, Scheme2015, NoTable}
 use Rattle.cases.specs.declared.Rules.{Rules}
 
--- kind 1: the 1995 section with pension age 60, paid in whole pounds
+-- kind 1: the 1995 section with pension age 60
 abbrev pub section1995 : Rules
 section1995 =
     record {
@@ -18,10 +18,9 @@ section1995 =
       modification = true;
       «pension_age» = 60;
       table = Section1995;
-      unit = 100;
     }
 
--- kind 2: the 2015 scheme, whose lines are dated, paid to the penny
+-- kind 2: the 2015 scheme, whose lines are dated
 abbrev pub scheme2015 : Rules
 scheme2015 =
     record {
@@ -32,7 +31,6 @@ scheme2015 =
       modification = false;
       «pension_age» = 0;
       table = Scheme2015;
-      unit = 1;
     }
 
 -- no other kind is valued
@@ -46,7 +44,6 @@ noKind =
       modification = false;
       «pension_age» = 0;
       table = NoTable;
-      unit = 0;
     }
 
 -- the rows by their kinds, from 0

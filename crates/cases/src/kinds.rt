@@ -16,7 +16,6 @@ pub fn rules_of(kind: u16) -> Rules
             modification: true,
             pension_age: 60,
             table: Table::Section1995,
-            unit: 100,
         },
         2 => Rules {
             lines: 4,
@@ -26,7 +25,6 @@ pub fn rules_of(kind: u16) -> Rules
             modification: false,
             pension_age: 0,
             table: Table::Scheme2015,
-            unit: 1,
         },
         _ => Rules {
             lines: 0,
@@ -36,7 +34,6 @@ pub fn rules_of(kind: u16) -> Rules
             modification: false,
             pension_age: 0,
             table: Table::NoTable,
-            unit: 0,
         },
     }
 }

@@ -60,6 +60,4 @@ pub struct Rules {
     pub pension_age: u16,
     // The notes' table that holds its factors.
     pub table: Table,
-    // The gross value is rounded to a multiple of this many pence.
-    pub unit: u64,
 }

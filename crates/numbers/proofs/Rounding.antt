@@ -22,11 +22,7 @@ nearest-half d n p =
 pub nearest-near : (d m n : ℕ) → 0 < d → Within d (nearest d n * d + m) (nearest d m * d + n)
 nearest-near d m n p = omega (arith, nearest-half d m p, nearest-half d n p)
 
--- a whole number is its own nearest, and where d is 0 there is nothing to round to
-pub nearest-one : (n : ℕ) → nearest 1 n ≡ n
-unfolding nearest
-nearest-one n = omega arith
-
+-- where d is 0 there is nothing to round to
 pub nearest-none : (n : ℕ) → nearest 0 n ≡ 0
 unfolding nearest
 nearest-none n = div-zero (n * 2 + 0)

@@ -15,7 +15,7 @@ first =
       outcome =
           Paid
           (record {
-            payment = 13686900;
+            payment = 13686893;
             pension = 1179216000;
             lump = 143640000;
             survivor = 48179250;
@@ -45,7 +45,7 @@ second =
 abbrev third : Answer
 third = record { number = 0; outcome = Refused Kind }
 
-pub first-block : lineOf 1 first ≡ ascii "1 1 pay 136869.00 pension 117921.6000 lump 14364.0000 survivor 4817.9250 deduct 234.6000 underpin 0.00 avc 0.00\n"
+pub first-block : lineOf 1 first ≡ ascii "1 1 pay 136868.93 pension 117921.6000 lump 14364.0000 survivor 4817.9250 deduct 234.6000 underpin 0.00 avc 0.00\n"
 unfolding lineOf paidText decimal digitsWithin lastDigits
 first-block = refl
 

@@ -1,6 +1,6 @@
 -- The order of gross values and payments: where no line of a case is worse than another case's, nor is what it is worth.
 -- Assumes nothing.
-use Prim.Native.Nat.{ℕ, zero, suc, _≤_}
+use Prim.Native.Nat.{ℕ, _≤_}
 use mathlib.Core.Path.{_≡_}
 use native.Mathlib.Nat.{mul-le-mul-right}
 use native.Mathlib.Omega.{arith}
@@ -8,12 +8,11 @@ use lib.Dec.{lit<}
 use Rattle.numbers.proofs.Rounding.{nearest-mono}
 use Rattle.numbers.proofs.Below.{sum-mono}
 use Rattle.cases.specs.Entries.{line}
-use Rattle.cases.specs.Kinds.{rulesOf}
 use Rattle.cases.specs.declared.Line.{Line}
 use Rattle.cases.specs.declared.Case.{Case}
 use Rattle.factors.specs.declared.Factors.{Factors}
 use Rattle.sums.specs.Sum.{Benefit, memberPension, lumpSum, survivorPension, entered, revalued, schemePaysOn, factor, itemAt, item, deduction, credit, grossBy}
-use Rattle.sums.specs.Payment.{inUnits, payment}
+use Rattle.sums.specs.Payment.{payment}
 
 -- P of each benefit
 abbrev pub each : (Benefit → Type 0) → Type 0
@@ -57,10 +56,6 @@ module _ (f : ℕ → Factors) (c d : Case) (rate : c .revaluation ≡ d .revalu
       nearest-mono (lit< tt) (omega (arith, items-mono memberPension, items-mono lumpSum, items-mono survivorPension, deduction-mono f c d w))
 
 -- steps 5 and 6 keep the order
-units-mono : (unit : ℕ) {g h : ℕ} → g ≤ h → inUnits unit g ≤ inUnits unit h
-units-mono zero p = omega arith
-units-mono (suc u) p = mul-le-mul-right (suc u) (nearest-mono {d = suc u} (omega arith) p)
-
 pub payment-mono : (c : Case) {g h : ℕ} → g ≤ h → payment c g ≤ payment c h
 unfolding payment
-payment-mono c p = omega (arith, units-mono (rulesOf (c .kind) .unit) p)
+payment-mono c p = omega arith

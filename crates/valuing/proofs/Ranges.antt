@@ -1,6 +1,6 @@
 -- What refusal 5 leaves: amounts, revaluation and so the items are in their ranges.
 -- Assumes nothing.
-use Prim.Native.Nat.{ℕ, zero, suc, _+_, _*_, _≤_, _<_}
+use Prim.Native.Nat.{ℕ, _+_, _*_, _≤_, _<_}
 use mathlib.Core.Bool.{Bool, true, false, cond, not}
 use mathlib.Core.List.{[], _∷_}
 use mathlib.Core.Path.{_≡_}
@@ -19,7 +19,7 @@ use Rattle.cases.specs.Flags.{transferFlag}
 use Rattle.cases.specs.Kinds.{rulesOf}
 use Rattle.cases.specs.declared.Case.{Case}
 use Rattle.sums.specs.Sum.{revalued}
-use Rattle.sums.specs.Payment.{inUnits, underpin}
+use Rattle.sums.specs.Payment.{underpin}
 use Rattle.valuing.specs.Totals.{HeadInRange, LineInRange}
 
 module _ (c : Case) (sound : rangeFault c ≡ false) where
@@ -50,11 +50,6 @@ module _ (c : Case) (sound : rangeFault c ≡ false) where
 -- an amount in range, revalued
 pub revalued-small : (v x : ℕ) → v ≤ 100000 → x ≤ 2000000000 → revalued v x ≤ 20000000000
 revalued-small v x p q = omega (arith, nearest-half 10000 (x * v) (lit< tt), mul-le-mul q p)
-
--- pence in whole units of at most a pound
-pub units-small : (unit g : ℕ) → unit ≤ 100 → inUnits unit g ≤ g + 100
-units-small zero g h = omega arith
-units-small (suc u) g h = omega (arith, nearest-half (suc u) g (omega arith))
 
 pub underpin-small : (c : Case) → rangeFault c ≡ false → underpin c ≤ 2000000000
 unfolding underpin

@@ -15,7 +15,6 @@ use crate::sum::take_off;
 use answers::Items;
 use answers::Outcome;
 use cases::Case;
-use cases::rules_of;
 use cases::transfer_flag;
 use refusals::Refusal;
 
@@ -36,32 +35,19 @@ fn larger(a: u64, b: u64) -> u64
     if a < b { b } else { a }
 }
 
-// Pence, rounded to a whole number of units; to the penny there is nothing to round.
-fn in_units(gross: u64, unit: u64) -> u64
-    requires { ⌜ (gross < 2 ^ 62) × (unit ≤ 100) ⌝ }
-    ensures { λ r. ⌜ (r ≡ payment.inUnits unit gross) × (r ≤ gross + 100) ⌝ }
+// The gross value or the underpin, whichever is larger, and the AVC.
+fn with_avc(gross: u64, underpin: u64, avc: u64) -> u64
+    requires { ⌜ (gross < 2 ^ 62) × (underpin ≤ 2000000000) × (avc ≤ 1000000000) ⌝ }
+    ensures { λ r. ⌜ r ≡ max gross underpin + avc ⌝ }
 {
-    if unit == 1 {
-        gross
-    } else {
-        numbers::nearest(gross, unit) * unit
-    }
-}
-
-// The gross value in units or the underpin, whichever is larger, and the AVC.
-fn with_avc(gross: u64, unit: u64, underpin: u64, avc: u64) -> u64
-    requires { ⌜ (gross < 2 ^ 62) × (unit ≤ 100) × (underpin ≤ 2000000000) × (avc ≤ 1000000000) ⌝ }
-    ensures { λ r. ⌜ r ≡ max (payment.inUnits unit gross) underpin + avc ⌝ }
-{
-    larger(in_units(gross, unit), underpin) + avc
+    larger(gross, underpin) + avc
 }
 
 fn pay(c: Case, gross: u64) -> u64
     requires { ⌜ (rangeFault c ≡ false) × (gross < 2 ^ 62) ⌝ }
     ensures { λ r. ⌜ r ≡ payment.payment c gross ⌝ }
 {
-    let rules = rules_of(c.kind);
-    with_avc(gross, rules.unit, underpin(c), c.avc)
+    with_avc(gross, underpin(c), c.avc)
 }
 
 // The payment with its items, or refusal 14.

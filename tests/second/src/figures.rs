@@ -96,12 +96,12 @@ fn of_the_sum() -> Vec<(Block, String)> {
         // 1p at 1.5000 is 2p, and 2p at 18.05 is 36.1p.
         (
             aged_54(15_000, &[(at::PENSION, 1)]),
-            text("1 1 pay 0.00 pension 0.3610 lump 0.0000 survivor 0.0000 deduct 0.0000 underpin 0.00 avc 0.00"),
+            text("1 1 pay 0.36 pension 0.3610 lump 0.0000 survivor 0.0000 deduct 0.0000 underpin 0.00 avc 0.00"),
         ),
         // 180.5p and 1.5p are 182p: one rounding, not one to an item.
         (
             aged_54(10_000, &[(at::PENSION, 10), (at::SURVIVOR, 1)]),
-            text("1 1 pay 2.00 pension 1.8050 lump 0.0000 survivor 0.0150 deduct 0.0000 underpin 0.00 avc 0.00"),
+            text("1 1 pay 1.82 pension 1.8050 lump 0.0000 survivor 0.0150 deduct 0.0000 underpin 0.00 avc 0.00"),
         ),
         (
             aged_54(10_000, &[(at::PENSION, 100), (at::DEBIT, 100)]),
@@ -133,19 +133,19 @@ fn of_the_calendar() -> Vec<(Block, String)> {
     let text = String::from;
     vec![
         // Age 52, and 53 a day later.
-        (born(june, date(2020, 5, 31)), paid("17.00", "17.2400")),
-        (born(june, date(2020, 6, 1)), paid("18.00", "17.6400")),
+        (born(june, date(2020, 5, 31)), paid("17.24", "17.2400")),
+        (born(june, date(2020, 6, 1)), paid("17.64", "17.6400")),
         // 26 and 27 years ahead.
         (due(july, date(2021, 7, 3), date(2047, 7, 3)), paid("9.08", "9.0800")),
         (due(july, date(2021, 7, 3), date(2047, 7, 4)), paid("8.89", "8.8900")),
         // Born on a leap day: 52, and 53 from 28 February of a common year.
-        (born(leap_1968, date(2021, 2, 27)), paid("17.00", "17.2400")),
-        (born(leap_1968, date(2021, 2, 28)), paid("18.00", "17.6400")),
+        (born(leap_1968, date(2021, 2, 27)), paid("17.24", "17.2400")),
+        (born(leap_1968, date(2021, 2, 28)), paid("17.64", "17.6400")),
         // 58, then 59, then 60 from 29 February of a leap year, and too old.
-        (born(leap_1968, date(2027, 2, 27)), paid("20.00", "19.8500")),
-        (born(leap_1968, date(2027, 2, 28)), paid("20.00", "20.3400")),
-        (born(leap_1968, date(2027, 3, 1)), paid("20.00", "20.3400")),
-        (born(leap_1968, date(2028, 2, 28)), paid("20.00", "20.3400")),
+        (born(leap_1968, date(2027, 2, 27)), paid("19.85", "19.8500")),
+        (born(leap_1968, date(2027, 2, 28)), paid("20.34", "20.3400")),
+        (born(leap_1968, date(2027, 3, 1)), paid("20.34", "20.3400")),
+        (born(leap_1968, date(2028, 2, 28)), paid("20.34", "20.3400")),
         (born(leap_1968, date(2028, 2, 29)), text("1 1 refused 11 age")),
         // 25 and 26 years ahead of a leap day.
         (due(july, leap_2020, date(2045, 2, 28)), paid("9.27", "9.2700")),

@@ -211,15 +211,10 @@ fn put_survivor_at_edge(model: &Model, random: &mut Random, block: &mut Block) {
         *block = before;
         return;
     };
-    let to_pounds = block.kind() == 1 && random.one_in(2);
-    let (modulus, target) = if to_pounds {
-        (10_000, random.pick(&[4_949, 4_950, 4_951, 4_999, 5_000, 5_049, 5_050, 9_949, 9_950]))
-    } else {
-        (100, random.pick(&[0, 49, 50, 51, 99]))
-    };
-    let found = (0..modulus).find(|s| {
+    let target = random.pick(&[0, 49, 50, 51, 99]);
+    let found = (0..100).find(|s| {
         let with = total + s * factors.survivor;
-        with >= 0 && with % modulus == target
+        with >= 0 && with % 100 == target
     });
     match found {
         Some(survivor) => block.put(line + at::SURVIVOR, 8, survivor as u64),

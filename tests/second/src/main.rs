@@ -31,7 +31,6 @@ struct Reached {
     sorts: [u64; SORTS.len()],
     refusals: [u64; 16],
     paid: [u64; 3],
-    underpin_paid: u64,
     ages: Vec<u64>,
     years: Vec<u64>,
     rules: [u64; RULES.len()],
@@ -39,12 +38,9 @@ struct Reached {
 }
 
 impl Reached {
-    fn count_payment(&mut self, model: &Model, block: &[u8], payment: &Payment) {
+    fn count_payment(&mut self, model: &Model, block: &[u8]) {
         let case = case_of(block);
         self.paid[case.kind as usize] += 1;
-        if case.kind == 2 && payment.underpin > payment.gross {
-            self.underpin_paid += 1;
-        }
         for line in case.used() {
             let key = model.key(&case, line) as usize;
             if case.kind == 1 {
@@ -77,7 +73,6 @@ impl Reached {
         }
         println!("  {:<28}{:>10}", "paid, kind 1", self.paid[1]);
         println!("  {:<28}{:>10}", "paid, kind 2", self.paid[2]);
-        println!("  {:<28}{:>10}", "of these the underpin", self.underpin_paid);
         println!("  {:<28}{:>10}", "each age 22 to 59, at least", self.ages[22..].iter().min().unwrap());
         println!("  {:<28}{:>10}", "each year 1 to 50, at least", self.years[1..].iter().min().unwrap());
         for ((name, _), n) in RULES.iter().zip(self.rules) {
@@ -140,7 +135,7 @@ fn compare(model: &Model, blocks: u64, seed: u64) -> Result<Reached, String> {
             reached.count_rules(trial.block(), &answer);
         }
         match answer {
-            Ok(payment) => reached.count_payment(model, trial.block(), &payment),
+            Ok(_) => reached.count_payment(model, trial.block()),
             Err(refusal) => reached.refusals[refusal] += 1,
         }
     }

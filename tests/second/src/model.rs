@@ -159,7 +159,7 @@ pub struct Case {
 }
 
 impl Case {
-    fn has(&self, flag: u64) -> bool {
+    pub fn has(&self, flag: u64) -> bool {
         self.flags & flag != 0
     }
 
@@ -374,9 +374,7 @@ impl Model {
             return Err(14);
         }
         payment.gross = rounded(total, 100);
-        let before_avc =
-            if case.kind == 1 { 100 * rounded(payment.gross, 100) } else { payment.gross.max(payment.underpin) };
-        payment.paid = before_avc + payment.avc;
+        payment.paid = payment.gross.max(payment.underpin) + payment.avc;
         Ok(payment)
     }
 

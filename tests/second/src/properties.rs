@@ -47,10 +47,8 @@ impl Paid {
     }
 
     /// Whether steps 5 and 6 make the payment of the gross value.
-    fn follows(&self, kind: u64) -> bool {
-        let before_avc =
-            if kind == 1 { (self.gross() + 50).div_euclid(100) * 100 } else { self.gross().max(self.underpin) };
-        self.paid == before_avc + self.avc
+    fn follows(&self) -> bool {
+        self.paid == self.gross().max(self.underpin) + self.avc
     }
 }
 
@@ -148,7 +146,7 @@ fn try_pair(model: &Model, random: &mut Random, lent: &mut Lent, fields: &[usize
     if [before.gross(), after.gross()] != gross {
         return failed("the printed items do not add up to the gross value");
     }
-    if !before.follows(smaller.kind()) || !after.follows(larger.kind()) {
+    if !before.follows() || !after.follows() {
         return failed("steps 5 and 6 do not give the payment");
     }
     let benefit = BENEFITS.contains(&entry.field);

@@ -1,17 +1,23 @@
 //! Rules that the counts of refusals and of rows do not show as reached, each at both sides of its edge.
 
 use crate::model::*;
+use std::ops::Range;
 
 type Answer = Result<Payment, Refusal>;
 
 /// A rule's name, and whether a block with this case and this answer stands at its edge.
-pub const RULES: [(&str, fn(&Case, &Answer) -> bool); 6] = [
+pub const RULES: [(&str, fn(&Case, &Answer) -> bool); 11] = [
     ("born 29 Feb, aged at 27 Feb", |case, answer| aged(case, 27) && answer.is_ok()),
     ("born 29 Feb, aged at 28 Feb", |case, answer| aged(case, 28) && answer.is_ok()),
     ("65 on 28 Feb, line on 27 Feb", |case, answer| aged_65(case, 27) && matches!(answer, Err(6)) && alone(case)),
     ("65 on 28 Feb, line on 28 Feb", |case, answer| aged_65(case, 28) && answer.is_ok()),
     ("ahead, 29 Feb to 28 Feb", |case, answer| answer.is_ok() && ahead(case, 2, 28)),
     ("ahead, 29 Feb to 1 March", |case, answer| answer.is_ok() && ahead(case, 3, 1)),
+    ("kind 1, pence of 1 to 49", |case, answer| case.kind == 1 && pence(answer, 1..50)),
+    ("kind 1, pence of 50 to 99", |case, answer| case.kind == 1 && pence(answer, 50..100)),
+    ("underpin a penny below gross", |case, answer| case.has(TRANSFERRED_IN) && underpin_above(answer, -1)),
+    ("underpin a penny above gross", |case, answer| case.has(TRANSFERRED_IN) && underpin_above(answer, 1)),
+    ("underpin between, AVC on top", |_, answer| answer.as_ref().is_ok_and(between)),
 ];
 
 /// Whether the first is 29 February and the second this day of a common year.
@@ -38,4 +44,18 @@ fn alone(case: &Case) -> bool {
 
 fn ahead(case: &Case, month: i64, day: i64) -> bool {
     case.kind == 2 && case.used().iter().any(|line| from_leap_day(case.guarantee, line.date, month, day))
+}
+
+/// Whether the gross value, which is paid to the penny, has these pence over its whole pounds.
+fn pence(answer: &Answer, these: Range<i128>) -> bool {
+    answer.as_ref().is_ok_and(|payment| these.contains(&(payment.gross % 100)))
+}
+
+fn underpin_above(answer: &Answer, pence: i128) -> bool {
+    answer.as_ref().is_ok_and(|payment| payment.underpin == payment.gross + pence)
+}
+
+/// Whether the underpin is above the gross value, but not above it and the AVC together.
+fn between(payment: &Payment) -> bool {
+    payment.gross < payment.underpin && payment.underpin < payment.gross + payment.avc
 }
