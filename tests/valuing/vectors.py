@@ -5,8 +5,8 @@
     vectors.py stdout   the line expected for each case
     vectors.py list     number, label and stated expectation of each vector
 
-Each vector states its expectation, worked by hand or taken from 01 or the two
-guidance notes: the payment with its items, or the number of the refusal. Where
+Each vector states its expectation, worked by hand or taken from 01, the two
+guidance notes or a change request: the payment with its items, or the number of the refusal. Where
 every row of the tables is tried, the table's own figures are stated. The script
 also holds a model of valuing, and stops with exit code 1 when the model and a
 stated expectation differ, before it writes anything. The factors are those of
@@ -549,7 +549,7 @@ def figures_at_the_edges():
 
 
 def examples():
-    """Each prints its result; with 01's sum each comes to the same."""
+    """Each prints its result, and the sum comes to the same."""
     group("examples")
     # prints £136,868.93 and, rounded once more, £136,869
     vector("001, A", paid(
@@ -604,10 +604,10 @@ def clerks():
     vector("halves go up, revaluation, to even", paid("0.19", pension="0.1854"), AHEAD_25, {
         "revaluation": 15_000, "line 1 pension": 1,
     }, wrong="0.09")
-    vector("kind 1, 250 pence", paid("2.50", lump="2.20", survivor="0.30"), AGED_54, {
+    vector("kind 1 is paid to the penny, 250p", paid("2.50", lump="2.20", survivor="0.30"), AGED_54, {
         "line 1 lump sum": 250, "line 1 survivor": 20,
     }, wrong="3.00")
-    vector("kind 1, 150 pence", paid("1.50", survivor="1.50"), AGED_54, {
+    vector("kind 1 is paid to the penny, 150p", paid("1.50", survivor="1.50"), AGED_54, {
         "line 1 survivor": 100,
     }, wrong="2.00")
     vector("no underpin without a transfer in", paid("25,900.81", **B_PAID), B_003, {
@@ -1145,7 +1145,7 @@ def voluntary_fund():
     vector("kind 1, added to the gross value", paid("136,869.42", pension="117,921.60", lump="14,364.00",
            survivor="4,817.9250", deduct="234.60", avc="0.49"), A_001, {"AVC": 49}, wrong="136,869.49")
     # 149 pence and 1 penny
-    vector("kind 1, a penny to the half of a pound", paid("1.50", lump="1.10", survivor="0.39", avc="0.01"), AGED_54, {
+    vector("kind 1, 149p and an AVC of 1p", paid("1.50", lump="1.10", survivor="0.39", avc="0.01"), AGED_54, {
         "line 1 lump sum": 125, "line 1 survivor": 26, "AVC": 1,
     }, wrong="2.00")
     vector("kind 2, added to the gross value", paid("26,000.80", avc="99.99", **B_PAID), B_003, {"AVC": 99_99})
@@ -1213,14 +1213,17 @@ def order():
     vector("status 2 and receiver not listed", 5, P54, {"status": 2, "receiving scheme": 4})
 
 
-def to_the_penny():
-    group("kind 1, to the penny")
-    vector("a half penny goes up, to odd", paid("1.81", pension="1.8050"), AGED_54, {"line 1 pension": 10}, wrong="1.80")
-    vector("a half penny goes up, to even", paid("0.02", survivor="0.0150"), AGED_54, {"line 1 survivor": 1}, wrong="0.01")
-    # 54,150,000 + 6,600,001.76 + 498,027 pence
-    vector("more pounds and pence than a 32-bit float holds", paid(
+def payment():
+    group("payment")
+    vector("kind 1, a half penny goes up, to odd", paid("1.81", pension="1.8050"), AGED_54, {"line 1 pension": 10}, wrong="1.80")
+    vector("kind 1, a half penny goes up, to even", paid("0.02", survivor="0.0150"), AGED_54, {"line 1 survivor": 1}, wrong="0.01")
+    # 54,150,000 + 6,600,001.76 + 498,027 pence; the nearest 32-bit float of pounds is 612,480.3125
+    vector("kind 1, more than a 32-bit float holds", paid(
         "612,480.29", pension="541,500.00", lump="66,000.0176", survivor="4,980.27",
     ), AGED_54, {"line 1 pension": 30_000_00, "line 1 lump sum": 75_000_02, "line 1 survivor": 3_320_18}, wrong="612,480.31")
+    vector("kind 2, underpin above gross value and AVC", paid(
+        "30,500.00", underpin="30,000.00", avc="500.00", **B_PAID,
+    ), B_003, {"flags": 1, "transfer-in": 20_000_00, "own contributions": 10_000_00, "AVC": 500_00}, wrong="30,000.00")
 
 
 def main():
@@ -1231,7 +1234,7 @@ def main():
     for vectors in (
         figures_at_the_edges, examples, clerks, every_row, kind, flags, reserved_amounts, codes, amounts, days, dates,
         entitlement, ages, leap_days, debits, negative, rounding, several_lines, largest, underpin, voluntary_fund, order,
-        to_the_penny,
+        payment,
     ):
         vectors()
     if FAULTS:

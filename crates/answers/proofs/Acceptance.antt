@@ -2,7 +2,7 @@
 -- Assumes nothing.
 use Prim.Native.Nat.{_+_}
 use mathlib.Core.Bool.{false}
-use mathlib.Core.Path.{_≡_, ap, _∙_}
+use mathlib.Core.Path.{_≡_, refl, ap, _∙_}
 use Rattle.refusals.proofs.Order.{none-first, none-given}
 use Rattle.refusals.specs.declared.Refusal.the-variants.{Reserved}
 use Rattle.cases.specs.Kinds.{rulesOf}
@@ -22,7 +22,12 @@ pub accepted-payment : (c : Case) → Accepted c → paid (answerOf c) ≡ payme
 unfolding itemsOf
 accepted-payment c n = ap paid (accepted-paid c n)
 
--- of a kind without transfers, such as kind 1, that is the gross value and the AVC
+-- of a kind without transfers that is the gross value and the AVC
 pub accepted-gross : (c : Case) → rulesOf (c .kind) .transfers ≡ false → Accepted c → paid (answerOf c) ≡ grossOf c + c .avc
 unfolding tests
 accepted-gross c k n = accepted-payment c n ∙ payment-unflagged c (grossOf c) (no-transfer-flag c k (none-given Reserved (tests c) n))
+
+-- so it is of kind 1, the 1995 section
+pub section-1995-paid : (c : Case) → c .kind ≡ 1 → Accepted c → paid (answerOf c) ≡ grossOf c + c .avc
+unfolding rulesOf
+section-1995-paid c k = accepted-gross c (rw k refl)

@@ -1,4 +1,4 @@
--- The figures at the edges that are proved: nine rows, what the definitions work out beside what 01 states.
+-- The figures at the edges that are proved: nine rows, what the definitions work out beside what 01 and the change requests state.
 -- Assumes nothing.
 use Prim.Native.Nat.{ℕ, _-_}
 use mathlib.Core.List.{List, [], _∷_}

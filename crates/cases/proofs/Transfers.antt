@@ -1,4 +1,4 @@
--- What refusal 4 leaves of transfers in.
+-- Where refusal 4 does not apply, a kind without transfers has no transfer flag.
 -- Assumes nothing.
 use mathlib.Core.Bool.{false, not, _&&_, _||_}
 use mathlib.Core.List.{[], _∷_}
@@ -11,7 +11,6 @@ use Rattle.cases.specs.Kinds.{rulesOf}
 use Rattle.cases.specs.Form.{filled, lineReservedFault, headReservedFault, reservedFault}
 use Rattle.cases.specs.declared.Case.{Case}
 
--- a kind without transfers has no transfer flag
 pub no-transfer-flag : (c : Case) → rulesOf (c .kind) .transfers ≡ false → reservedFault c ≡ false → transferFlag (c .flags) ≡ false
 unfolding reservedFault headReservedFault
 no-transfer-flag c k e =

@@ -1,4 +1,4 @@
-//! Lines worked out by hand from 01 and the notes, which both calculators must give, and a walk through the calendar.
+//! Lines worked out by hand from the papers, which both calculators must give, and a walk through the calendar.
 
 use crate::examples::*;
 use crate::generator::Block;

@@ -190,7 +190,7 @@ fn compare_and_report(blocks: u64, seed: u64, factors: &str) -> Result<(), Strin
     println!("{:<30}{:>10}", "blocks compared", blocks);
     reached.print();
     println!("{:<30}{:>10}", "days of the calendar stepped", days);
-    println!("{:<30}{:>10}", "figures of 01 and the notes", figures);
+    println!("{:<30}{:>10}", "figures of the papers", figures);
     println!("properties tried");
     for (name, n) in &tried {
         println!("  {name:<28}{n:>10}");

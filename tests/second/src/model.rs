@@ -1,4 +1,5 @@
-//! The second calculator: reading a block, valuing a case and forming its line, from 01 and the two notes alone.
+//! The second calculator: reading a block, valuing a case and forming its line, from 01, the two notes and the
+//! change requests alone.
 //! It is made differently where it can be: dates are day counts, factors are read from text, sums are 128-bit.
 
 use std::collections::BTreeMap;

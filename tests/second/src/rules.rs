@@ -1,23 +1,24 @@
 //! Rules that the counts of refusals and of rows do not show as reached, each at both sides of its edge.
 
 use crate::model::*;
-use std::ops::Range;
 
 type Answer = Result<Payment, Refusal>;
 
 /// A rule's name, and whether a block with this case and this answer stands at its edge.
-pub const RULES: [(&str, fn(&Case, &Answer) -> bool); 11] = [
+pub const RULES: [(&str, fn(&Case, &Answer) -> bool); 13] = [
     ("born 29 Feb, aged at 27 Feb", |case, answer| aged(case, 27) && answer.is_ok()),
     ("born 29 Feb, aged at 28 Feb", |case, answer| aged(case, 28) && answer.is_ok()),
     ("65 on 28 Feb, line on 27 Feb", |case, answer| aged_65(case, 27) && matches!(answer, Err(6)) && alone(case)),
     ("65 on 28 Feb, line on 28 Feb", |case, answer| aged_65(case, 28) && answer.is_ok()),
     ("ahead, 29 Feb to 28 Feb", |case, answer| answer.is_ok() && ahead(case, 2, 28)),
     ("ahead, 29 Feb to 1 March", |case, answer| answer.is_ok() && ahead(case, 3, 1)),
-    ("kind 1, pence of 1 to 49", |case, answer| case.kind == 1 && pence(answer, 1..50)),
-    ("kind 1, pence of 50 to 99", |case, answer| case.kind == 1 && pence(answer, 50..100)),
-    ("underpin a penny below gross", |case, answer| case.has(TRANSFERRED_IN) && underpin_above(answer, -1)),
-    ("underpin a penny above gross", |case, answer| case.has(TRANSFERRED_IN) && underpin_above(answer, 1)),
-    ("underpin between, AVC on top", |_, answer| answer.as_ref().is_ok_and(between)),
+    ("kind 1, paid with pence", |case, answer| case.kind == 1 && holds(answer, |p| p.paid % 100 != 0)),
+    ("kind 1, 0.49p over", |case, answer| case.kind == 1 && holds(answer, |p| signed_total(p) % 100 == 49)),
+    ("kind 1, 0.50p over", |case, answer| case.kind == 1 && holds(answer, |p| signed_total(p) % 100 == 50)),
+    ("underpin 1p below gross", |case, answer| flagged(case) && holds(answer, |p| p.underpin == p.gross - 1)),
+    ("underpin 1p above gross", |case, answer| flagged(case) && holds(answer, |p| p.underpin == p.gross + 1)),
+    ("underpin above gross alone", |_, answer| holds(answer, |p| underpin_tops(p, 0) && !underpin_tops(p, p.avc))),
+    ("underpin above gross and AVC", |_, answer| holds(answer, |p| p.avc > 0 && underpin_tops(p, p.avc))),
 ];
 
 /// Whether the first is 29 February and the second this day of a common year.
@@ -46,16 +47,16 @@ fn ahead(case: &Case, month: i64, day: i64) -> bool {
     case.kind == 2 && case.used().iter().any(|line| from_leap_day(case.guarantee, line.date, month, day))
 }
 
-/// Whether the gross value, which is paid to the penny, has these pence over its whole pounds.
-fn pence(answer: &Answer, these: Range<i128>) -> bool {
-    answer.as_ref().is_ok_and(|payment| these.contains(&(payment.gross % 100)))
+/// Whether the case is paid, and its payment is such a one.
+fn holds(answer: &Answer, such: fn(&Payment) -> bool) -> bool {
+    answer.as_ref().is_ok_and(such)
 }
 
-fn underpin_above(answer: &Answer, pence: i128) -> bool {
-    answer.as_ref().is_ok_and(|payment| payment.underpin == payment.gross + pence)
+fn flagged(case: &Case) -> bool {
+    case.has(TRANSFERRED_IN)
 }
 
-/// Whether the underpin is above the gross value, but not above it and the AVC together.
-fn between(payment: &Payment) -> bool {
-    payment.gross < payment.underpin && payment.underpin < payment.gross + payment.avc
+/// Whether the underpin is above the gross value with this much more.
+fn underpin_tops(payment: &Payment, more: i128) -> bool {
+    payment.underpin > payment.gross + more
 }
