@@ -11,7 +11,7 @@ use refusals::Refusal;
 use refusals::put_name;
 use refusals::refusal_number;
 
-// A word and an amount: whole pounds, a point, and the last d digits of n.
+// A word and an amount: pounds, a point, and the last d digits of n.
 fn put_item(out: &mut [u8], at: usize, word: &[u8], pounds: u64, n: u64, d: u8) -> usize
     ensures { λ r. ⌜ WrittenIfRoom (now (out .entry)) at (now (word .entry) ++ fixedPoint pounds d n) (now (out .exit)) r ⌝ }
 {
