@@ -12,7 +12,7 @@ pub const RULES: [(&str, fn(&Case, &Answer) -> bool); 13] = [
     ("65 on 28 Feb, line on 28 Feb", |case, answer| aged_65(case, 28) && answer.is_ok()),
     ("ahead, 29 Feb to 28 Feb", |case, answer| answer.is_ok() && ahead(case, 2, 28)),
     ("ahead, 29 Feb to 1 March", |case, answer| answer.is_ok() && ahead(case, 3, 1)),
-    ("kind 1, paid with pence", |case, answer| case.kind == 1 && holds(answer, |p| p.paid % 100 != 0)),
+    ("kind 1, pence of gross value", |case, answer| case.kind == 1 && holds(answer, |p| p.gross % 100 != 0)),
     ("kind 1, 0.49p over", |case, answer| case.kind == 1 && holds(answer, |p| signed_total(p) % 100 == 49)),
     ("kind 1, 0.50p over", |case, answer| case.kind == 1 && holds(answer, |p| signed_total(p) % 100 == 50)),
     ("underpin 1p below gross", |case, answer| flagged(case) && holds(answer, |p| p.underpin == p.gross - 1)),
