@@ -1,10 +1,10 @@
-//! Rules that the counts of refusals and of rows do not show as reached, each at both sides of its edge.
+//! Rules that the counts of refusals and of rows do not show as reached; those with an edge, at both sides of it.
 
 use crate::model::*;
 
 type Answer = Result<Payment, Refusal>;
 
-/// A rule's name, and whether a block with this case and this answer stands at its edge.
+/// A rule's name, and whether a block with this case and this answer falls under it.
 pub const RULES: [(&str, fn(&Case, &Answer) -> bool); 13] = [
     ("born 29 Feb, aged at 27 Feb", |case, answer| aged(case, 27) && answer.is_ok()),
     ("born 29 Feb, aged at 28 Feb", |case, answer| aged(case, 28) && answer.is_ok()),
