@@ -1,7 +1,7 @@
 #!/usr/bin/env python3
 """Writes a case file of N blocks to standard output, the same for the same N: cases of both kinds with one to four
-lines, about one in twelve of them refused, one in twenty-five dated around 29 February, and one in twenty with a
-transfer in.
+lines, about one in nine of them refused, one in twenty-five dated around 29 February, one in twenty-five with a
+guaranteed minimum pension and dated around pension age, and one in twenty with a transfer in.
 
     make_blocks.py N
 """
@@ -22,6 +22,22 @@ def around_leap_day(i, b, kind, count):
     if kind == 2:
         for k in range(count):
             b[64 + 72 * k:68 + 72 * k] = date(birth + 65 - k, *((2, 27), (2, 28), (3, 1))[n % 3])
+
+
+def around_pension_age(i, b, kind, count):
+    """A guaranteed minimum pension, its state pension date on 5 or 6 April 2016, and a guarantee date on the first day of
+    pension age or the day before."""
+    n = i // 200
+    b[10] = 2
+    b[24:28] = date(2020, 5, 10)
+    b[28:32] = date(2016, 4, 5 + n % 2)
+    day = 10 + n // 2 % 2
+    if kind == 1:
+        b[16:20] = date(1960, 5, day)
+    else:
+        b[16:20] = date(1950, 1, 1)
+        last = 64 + 72 * (count - 1)
+        b[last:last + 4] = date(2020, 5, day)
 
 
 def block(i):
@@ -45,6 +61,8 @@ def block(i):
         struct.pack_into("<Q", b, at + 56, i % 1000)
     if i % 50 < 2:
         around_leap_day(i, b, kind, count)
+    if i % 50 in (4, 5):
+        around_pension_age(i, b, kind, count)
     if i % 20 == 3:
         b[10] = 1
         struct.pack_into("<QQ", b, 48, i * 97 % 20_000_000, i * 31 % 5_000_000)

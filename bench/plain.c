@@ -171,19 +171,22 @@ static int value(const struct record *c, struct items *m)
         return 8;
     if (c->service < 3)
         return 9;
-    if ((c->flags & 2) && before(c->state_pension, (struct date){2016, 4, 6}))
-        return 10;
     unsigned years = 0;
     if (c->kind == 1) {
         years = age(c->birth, c->guarantee);
         if (years >= 60)
             return 11;
-        if (years < 22)
-            return 12;
     } else {
         for (unsigned k = 0; k < c->count; k++)
             if (!before(c->guarantee, c->lines[k].date))
                 return 11;
+    }
+    if ((c->flags & 2) && before(c->state_pension, (struct date){2016, 4, 6}))
+        return 10;
+    if (c->kind == 1) {
+        if (years < 22)
+            return 12;
+    } else {
         for (unsigned k = 0; k < c->count; k++)
             if (years_ahead(c->guarantee, c->lines[k].date) > 50)
                 return 12;

@@ -270,8 +270,8 @@ FAULTS_IN_ORDER = [
     (7, lambda case: case["status"] != 1),
     (8, lambda case: case["receiving scheme"] != 1),
     (9, lambda case: case["months"] < 3),
-    (10, refer_fault),
     (11, age_fault),
+    (10, refer_fault),
     (12, lambda case: any(row_of(case, line) is None for line in lines_of(case))),
     (13, debit_fault),
     (14, lambda case: signed_total(case) < 0),
@@ -1158,7 +1158,8 @@ def voluntary_fund():
     ), flagged, {"AVC": 500_00})
 
 
-# One change for each refusal; any of them may be made together but 11 and 12 of kind 1, which are both of age.
+# One change for each refusal, in the order in which they are tested; any of them may be made together but 11 and 12 of
+# kind 1, which are both of age.
 KIND_1_FAULTS = {
     3: {"count": 2},
     4: {"own contributions": 1},
@@ -1167,8 +1168,8 @@ KIND_1_FAULTS = {
     7: {"status": 2},
     8: {"receiving scheme": 2},
     9: {"months": 2},
-    10: {"flags": 2, "state pension date": (2016, 4, 5)},
     11: {"birth": (1961, 6, 1)},
+    10: {"flags": 2, "state pension date": (2016, 4, 5)},
     12: {"birth": (2000, 1, 1)},
     13: {"line 1 lump sum debit": 1},
     14: {"line 1 modification": 200_00},
@@ -1181,8 +1182,8 @@ KIND_2_FAULTS = {
     7: {"status": 2},
     8: {"receiving scheme": 2},
     9: {"months": 2},
-    10: {"flags": 2, "state pension date": (2016, 4, 5)},
     11: {"line 4 date": (2020, 5, 10)},
+    10: {"flags": 2, "state pension date": (2016, 4, 5)},
     12: {"line 1 date": (2070, 5, 11)},
     13: {"line 3 pension debit": 100_01},
 }
@@ -1192,15 +1193,16 @@ def order():
     group("order")
     sets = (("kind 1", P54 | {"leaving": (2021, 6, 1)}, KIND_1_FAULTS), ("kind 2", P4, KIND_2_FAULTS))
     for label, base, faults in sets:
-        for first in faults:
+        numbers = list(faults)
+        for at, first in enumerate(numbers):
             vector(f"{label}, {first} alone", first, base, faults[first])
-            for second in range(first + 1, max(faults) + 1):
+            for second in numbers[at + 1:]:
                 if (label, first, second) != ("kind 1", 11, 12):
                     vector(f"{label}, {first} before {second}", first, base, faults[first] | faults[second])
-        for first in faults:
+        for at, first in enumerate(numbers):
             several = {}
-            for number in faults:
-                if number >= first and (label, first <= 11, number) != ("kind 1", True, 12):
+            for number in numbers[at:]:
+                if (label, number, 11 in numbers[at:]) != ("kind 1", 12, True):
                     several |= faults[number]
             vector(f"{label}, {first} and all that follow", first, base, several)
     # Age 60 has no row either; neither have lines on the guarantee date.
@@ -1226,6 +1228,30 @@ def payment():
     ), B_003, {"flags": 1, "transfer-in": 20_000_00, "own contributions": 10_000_00, "AVC": 500_00}, wrong="30,000.00")
 
 
+def too_old_or_refer():
+    group("11 age before 10 refer")
+    refer = KIND_1_FAULTS[10]
+    others = {7: {"status": 2}, 8: {"receiving scheme": 2}, 9: {"months": 2}}
+    referred = P54 | refer
+    vector("kind 1, age 59", 10, referred, {"guarantee": (2027, 5, 31)})
+    vector("kind 1, age 60", 11, referred, {"guarantee": (2027, 6, 1)})
+    vector("kind 1, age 61", 11, referred, {"guarantee": (2028, 6, 1)})
+    not_referred = P54 | {"flags": 2, "state pension date": (2016, 4, 6)}
+    vector("kind 1, state pension date 6 April 2016, age 59", only("2,034.00"), not_referred, {"guarantee": (2027, 5, 31)})
+    vector("kind 1, state pension date 6 April 2016, age 60", 11, not_referred, {"guarantee": (2027, 6, 1)})
+    for number, change in others.items():
+        vector(f"kind 1, {number} with both", number, referred, {"guarantee": (2027, 6, 1)} | change)
+    older = P25 | {"birth": (1950, 1, 1)} | refer
+    vector("kind 2, line 1 on the guarantee date", 11, older, {"line 1 date": (2020, 5, 10)})
+    vector("kind 2, line 1 a day after", 10, older, {"line 1 date": (2020, 5, 11)})
+    for i in (2, 3, 4):
+        vector(f"kind 2, line {i}, the last, on the guarantee date", 11, lines_up_to(i) | refer, {f"line {i} date": (2020, 5, 10)})
+        vector(f"kind 2, line {i}, the last, a day after", 10, lines_up_to(i) | refer, {f"line {i} date": (2020, 5, 11)})
+    for number, change in others.items():
+        vector(f"kind 2, {number} with both", number, P4 | refer, {"line 4 date": (2020, 5, 10)} | change)
+    vector("kind 2, 12 with both", 11, P4 | refer, {"line 4 date": (2020, 5, 10), "line 1 date": (2070, 5, 11)})
+
+
 def main():
     commands = ("stdin", "stdout", "list")
     if len(sys.argv) != 2 or sys.argv[1] not in commands:
@@ -1234,7 +1260,7 @@ def main():
     for vectors in (
         figures_at_the_edges, examples, clerks, every_row, kind, flags, reserved_amounts, codes, amounts, days, dates,
         entitlement, ages, leap_days, debits, negative, rounding, several_lines, largest, underpin, voluntary_fund, order,
-        payment,
+        payment, too_old_or_refer,
     ):
         vectors()
     if FAULTS:

@@ -18,13 +18,15 @@ fn dates_verdict(c: Case) -> Verdict
     refuse_if(dates_fault(c), Refusal::Dates, Verdict::Passed)
 }
 
-// The first of refusals 7 to 11 that applies, or that none does.
+// The first of refusals 7 to 11 that applies, 11 before 10, or that none does.
 fn member_verdict(c: Case) -> Verdict
     ensures { λ r. ⌜ r ≡ first (entitlement.memberTests c) ⌝ }
 {
-    let age = refuse_if(age_fault(c), Refusal::Age, Verdict::Passed);
-    let refer = refuse_if(refer_fault(c), Refusal::Refer, age);
-    let service = refuse_if(c.service < 3, Refusal::Service, refer);
+    let too_old = age_fault(c);
+    let to_refer = refer_fault(c);
+    let refer = refuse_if(to_refer, Refusal::Refer, Verdict::Passed);
+    let age = refuse_if(too_old, Refusal::Age, refer);
+    let service = refuse_if(c.service < 3, Refusal::Service, age);
     let receiver = refuse_if(c.receiver != 1, Refusal::Receiver, service);
     refuse_if(c.status != 1, Refusal::Status, receiver)
 }

@@ -1,9 +1,9 @@
 -- The laws of tests in their order, over any list of them.
 -- Assumes nothing.
 use Prim.Native.Nat.{ℕ}
-use mathlib.Core.Bool.{Bool, true, false, cond, _||_}
+use mathlib.Core.Bool.{Bool, true, false, cond, _&&_, _||_}
 use mathlib.Core.List.{List, [], _∷_, _++_}
-use mathlib.Core.Path.{_≡_, refl, ap, _∙_}
+use mathlib.Core.Path.{_≡_, refl, sym, ap, _∙_}
 use native.Mathlib.Omega.{arith}
 use lib.Dec.{eqb}
 use Rattle.refusals.specs.Refusals.{numberOf}
@@ -55,6 +55,26 @@ first-past a b none = first-append a b ∙ rw (none-first a none)
 
 pub first-stays : (a b : List Test) {why : Refusal} → first a ≡ Refused why → first (a ++ b) ≡ Refused why
 first-stays a b e = first-append a b ∙ rw e
+
+-- two neighbouring tests in the other order
+module _ (a b : List Test) (s t : Test) where
+  -- the first is the same, unless both apply and none before them does
+  pub first-swap-same : (NoneOf a → (s .applies && t .applies) ≡ false) → first (a ++ (s ∷ t ∷ b)) ≡ first (a ++ (t ∷ s ∷ b))
+  first-swap-same unless = first-append a (s ∷ t ∷ b) ∙ go (first a) refl ∙ sym (first-append a (t ∷ s ∷ b))
+    where
+      two : (x y : Bool) → (x && y) ≡ false → cond x (Refused (s .refusal)) (cond y (Refused (t .refusal)) (first b)) ≡ cond y (Refused (t .refusal)) (cond x (Refused (s .refusal)) (first b))
+      two true true e = absurd (let z : _≡_ {A = ℕ} 0 1 = cc in omega arith)
+      two true false e = refl
+      two false y e = refl
+
+      go : (v : Verdict) → first a ≡ v → orElse v (first (s ∷ t ∷ b)) ≡ orElse v (first (t ∷ s ∷ b))
+      go (Refused why) e = refl
+      go Passed e = two (s .applies) (t .applies) (unless (first-none a e))
+
+  -- there it is the one of the two that stands first
+  pub first-swap-both : NoneOf a → s .applies ≡ true → t .applies ≡ true
+      → (first (a ++ (s ∷ t ∷ b)) ≡ Refused (s .refusal)) × (first (a ++ (t ∷ s ∷ b)) ≡ Refused (t .refusal))
+  first-swap-both none p q = (first-past a (s ∷ t ∷ b) none ∙ rw p, first-past a (t ∷ s ∷ b) none ∙ rw q)
 
 -- what earlier tests found, else later ones, and the same in numbers: no refusal has number 0
 pub or-else : (v w : Verdict) {r : Verdict} → r ≡ orElse v w

@@ -6,7 +6,8 @@ use crate::random::Random;
 
 type Break = fn(&Model, &mut Random, &mut Block);
 
-/// Refusals 3 to 14. Where two are applied, the later refusal's goes first, so that the earlier one stays broken.
+/// Refusals 3 to 14 in the order in which they are tested. Where two are applied, the later refusal's goes first, so that
+/// the earlier one stays broken.
 pub const BREAKS: &[(Refusal, &str, Break)] = &[
     (3, "kind not listed", kind_not_listed),
     (3, "count not allowed", count_not_allowed),
@@ -30,8 +31,10 @@ pub const BREAKS: &[(Refusal, &str, Break)] = &[
     (7, "status", |_, random, block| block.put(at::STATUS, 1, random.pick(&[2, 3, 4]))),
     (8, "receiver", |_, random, block| block.put(at::RECEIVER, 1, random.pick(&[2, 3]))),
     (9, "service", |_, random, block| block.put(at::SERVICE, 2, random.below(3))),
-    (10, "refer", state_pension_early),
     (11, "age", too_old),
+    (11, "age, to be referred too", too_old_to_refer),
+    (10, "refer", state_pension_early),
+    (10, "refer, a day before pension age", refer_before_pension_age),
     (12, "factor", no_row),
     (13, "debit", debit_above),
     (14, "negative", total_below_zero),
@@ -273,6 +276,21 @@ fn too_old(_: &Model, random: &mut Random, block: &mut Block) {
         let guarantee = block.get_date(at::GUARANTEE);
         block.put_date(at::BIRTH, date(guarantee.year - 61, 6, 1));
     }
+}
+
+fn too_old_to_refer(model: &Model, random: &mut Random, block: &mut Block) {
+    state_pension_early(model, random, block);
+    too_old(model, random, block);
+}
+
+fn refer_before_pension_age(model: &Model, random: &mut Random, block: &mut Block) {
+    state_pension_early(model, random, block);
+    let reached = if block.kind() == 1 {
+        moved_on(block.get_date(at::BIRTH), 60)
+    } else {
+        at::LINES[..block.count()].iter().map(|start| block.day(start + at::DATE)).min().unwrap()
+    };
+    block.put_day(at::GUARANTEE, (reached - 1).min(last_day()));
 }
 
 fn no_row(_: &Model, random: &mut Random, block: &mut Block) {

@@ -74,10 +74,10 @@ fn with_underpin(transfer_in: u64, contributions: u64) -> Block {
     block
 }
 
-fn with_state_pension(d: Date) -> Block {
-    let mut block = b_of_003();
+/// The block with a guaranteed minimum pension and this state pension date.
+fn with_gmp(mut block: Block, state_pension: Date) -> Block {
     block.set_flag(HAS_GMP, true);
-    block.put_date(at::STATE_PENSION, d);
+    block.put_date(at::STATE_PENSION, state_pension);
     block
 }
 
@@ -113,8 +113,8 @@ fn of_the_sum() -> Vec<(Block, String)> {
         (with_underpin(2_000_000, 590_082), b("25900.82", "25900.82")),
         // Contributions of a member with no transfer in are no underpin.
         (with_underpin(0, 100_000_000), b("25900.81", "0.00")),
-        (with_state_pension(date(2016, 4, 5)), text("1 2 refused 10 refer")),
-        (with_state_pension(date(2016, 4, 6)), b("25900.81", "0.00")),
+        (with_gmp(b_of_003(), date(2016, 4, 5)), text("1 2 refused 10 refer")),
+        (with_gmp(b_of_003(), date(2016, 4, 6)), b("25900.81", "0.00")),
         (with_service(3), b("25900.81", "0.00")),
         (with_service(2), text("1 2 refused 9 service")),
     ]
@@ -164,6 +164,19 @@ fn of_the_calendar() -> Vec<(Block, String)> {
     ]
 }
 
+/// Cases to be referred, a day before pension age and on it.
+fn of_the_order() -> Vec<(Block, String)> {
+    let to_refer = |block| with_gmp(block, date(2016, 4, 5));
+    let due_in_2021 = |day| due(date(1950, 1, 1), date(2021, 6, 1), date(2021, 6, day));
+    let text = String::from;
+    vec![
+        (to_refer(born(date(1961, 6, 2), date(2021, 6, 1))), text("1 1 refused 10 refer")),
+        (to_refer(born(date(1961, 6, 1), date(2021, 6, 1))), text("1 1 refused 11 age")),
+        (to_refer(due_in_2021(2)), text("1 1 refused 10 refer")),
+        (to_refer(due_in_2021(1)), text("1 1 refused 11 age")),
+    ]
+}
+
 /// The examples' lines, from the file that the program's test is held to as well.
 fn of_the_notes() -> Vec<(Block, String)> {
     let lines = include_str!("../../examples/expected.txt").lines();
@@ -183,7 +196,7 @@ pub fn try_figures(model: &Model) -> Result<usize, String> {
         }
     }
     figures.push((Block::zeros(), "3 0 refused 3 kind".into()));
-    figures.extend(of_the_sum().into_iter().chain(of_the_calendar()));
+    figures.extend(of_the_sum().into_iter().chain(of_the_calendar()).chain(of_the_order()));
     for (block, line) in &figures {
         let block = sealed(block.clone());
         let place: u32 = line.split(' ').next().unwrap().parse().unwrap();

@@ -456,6 +456,10 @@ fn dates_broken(case: &Case) -> bool {
                 || case.used()[1..].iter().any(|line| day_number(line.date) >= first_line)))
 }
 
+pub fn gmp_to_refer(case: &Case) -> bool {
+    case.has(HAS_GMP) && day_number(case.state_pension) < day_number(date(2016, 4, 6))
+}
+
 fn past_pension_age(case: &Case) -> bool {
     if case.kind == 1 {
         age(case.birth, case.guarantee) >= 60
@@ -465,16 +469,15 @@ fn past_pension_age(case: &Case) -> bool {
     }
 }
 
-/// Refusals 6 to 11, in order.
+/// Refusals 6 to 11, in the order in which they are tested: 11 before 10.
 fn refused_before_factors(case: &Case) -> Result<(), Refusal> {
-    let gmp_to_refer = case.has(HAS_GMP) && day_number(case.state_pension) < day_number(date(2016, 4, 6));
     let rules = [
         (6, dates_broken(case)),
         (7, case.status != 1),
         (8, case.receiver != 1),
         (9, case.service < 3),
-        (10, gmp_to_refer),
         (11, past_pension_age(case)),
+        (10, gmp_to_refer(case)),
     ];
     match rules.iter().find(|(_, broken)| *broken) {
         Some((refusal, _)) => Err(*refusal),

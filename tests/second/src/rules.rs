@@ -5,7 +5,7 @@ use crate::model::*;
 type Answer = Result<Payment, Refusal>;
 
 /// A rule's name, and whether a block with this case and this answer falls under it.
-pub const RULES: [(&str, fn(&Case, &Answer) -> bool); 13] = [
+pub const RULES: [(&str, fn(&Case, &Answer) -> bool); 17] = [
     ("born 29 Feb, aged at 27 Feb", |case, answer| aged(case, 27) && answer.is_ok()),
     ("born 29 Feb, aged at 28 Feb", |case, answer| aged(case, 28) && answer.is_ok()),
     ("65 on 28 Feb, line on 27 Feb", |case, answer| aged_65(case, 27) && matches!(answer, Err(6)) && alone(case)),
@@ -19,6 +19,10 @@ pub const RULES: [(&str, fn(&Case, &Answer) -> bool); 13] = [
     ("underpin 1p above gross", |case, answer| flagged(case) && holds(answer, |p| p.underpin == p.gross + 1)),
     ("underpin above gross alone", |_, answer| holds(answer, |p| underpin_tops(p, 0) && !underpin_tops(p, p.avc))),
     ("underpin above gross and AVC", |_, answer| holds(answer, |p| p.avc > 0 && underpin_tops(p, p.avc))),
+    ("kind 1, refer, a day to 60", |case, answer| to_refer(case, answer, 10) && at_60th_birthday(case, -1)),
+    ("kind 1, refer, 60 that day", |case, answer| to_refer(case, answer, 11) && at_60th_birthday(case, 0)),
+    ("kind 2, refer, a day to line", |case, answer| to_refer(case, answer, 10) && at_first_due(case, -1)),
+    ("kind 2, refer, line that day", |case, answer| to_refer(case, answer, 11) && at_first_due(case, 0)),
 ];
 
 /// Whether the first is 29 February and the second this day of a common year.
@@ -59,4 +63,20 @@ fn flagged(case: &Case) -> bool {
 /// Whether the underpin is above the gross value with this much more.
 fn underpin_tops(payment: &Payment, more: i128) -> bool {
     payment.underpin > payment.gross + more
+}
+
+/// Whether a case with a pension to be referred is refused so.
+fn to_refer(case: &Case, answer: &Answer, refusal: Refusal) -> bool {
+    matches!(answer, Err(found) if *found == refusal) && gmp_to_refer(case)
+}
+
+/// Whether the guarantee date lies so many days after the 60th birthday.
+fn at_60th_birthday(case: &Case, days: i64) -> bool {
+    case.kind == 1 && day_number(case.guarantee) == moved_on(case.birth, 60) + days
+}
+
+/// Whether the guarantee date lies so many days after the earliest date of a line.
+fn at_first_due(case: &Case, days: i64) -> bool {
+    let due = case.used().iter().map(|line| day_number(line.date)).min();
+    case.kind == 2 && due.is_some_and(|due| day_number(case.guarantee) == due + days)
 }
