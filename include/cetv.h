@@ -49,8 +49,7 @@ extern "C" {
 #define CETV_LINE_SIZE 256
 
 /* The refusals, by the number that a line gives, with their names there. The
- * first that applies is given. They are tested in this order: 15, 1 to 9, 11,
- * 10, 12 to 14. */
+ * first that applies is given, in this order: 15, 1 to 9, 11, 10, 12 to 14. */
 enum cetv_refusal {
     CETV_LENGTH = 1,    /* length: the block is not 512 bytes */
     CETV_CHECK = 2,     /* check: the check differs */

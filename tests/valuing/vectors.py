@@ -1231,7 +1231,6 @@ def payment():
 def too_old_or_refer():
     group("11 age before 10 refer")
     refer = KIND_1_FAULTS[10]
-    others = {7: {"status": 2}, 8: {"receiving scheme": 2}, 9: {"months": 2}}
     referred = P54 | refer
     vector("kind 1, age 59", 10, referred, {"guarantee": (2027, 5, 31)})
     vector("kind 1, age 60", 11, referred, {"guarantee": (2027, 6, 1)})
@@ -1239,16 +1238,16 @@ def too_old_or_refer():
     not_referred = P54 | {"flags": 2, "state pension date": (2016, 4, 6)}
     vector("kind 1, state pension date 6 April 2016, age 59", only("2,034.00"), not_referred, {"guarantee": (2027, 5, 31)})
     vector("kind 1, state pension date 6 April 2016, age 60", 11, not_referred, {"guarantee": (2027, 6, 1)})
-    for number, change in others.items():
-        vector(f"kind 1, {number} with both", number, referred, {"guarantee": (2027, 6, 1)} | change)
+    for number in (7, 8, 9):
+        vector(f"kind 1, {number} with both", number, referred, {"guarantee": (2027, 6, 1)} | KIND_1_FAULTS[number])
     older = P25 | {"birth": (1950, 1, 1)} | refer
     vector("kind 2, line 1 on the guarantee date", 11, older, {"line 1 date": (2020, 5, 10)})
     vector("kind 2, line 1 a day after", 10, older, {"line 1 date": (2020, 5, 11)})
     for i in (2, 3, 4):
         vector(f"kind 2, line {i}, the last, on the guarantee date", 11, lines_up_to(i) | refer, {f"line {i} date": (2020, 5, 10)})
         vector(f"kind 2, line {i}, the last, a day after", 10, lines_up_to(i) | refer, {f"line {i} date": (2020, 5, 11)})
-    for number, change in others.items():
-        vector(f"kind 2, {number} with both", number, P4 | refer, {"line 4 date": (2020, 5, 10)} | change)
+    for number in (7, 8, 9):
+        vector(f"kind 2, {number} with both", number, P4 | refer, {"line 4 date": (2020, 5, 10)} | KIND_2_FAULTS[number])
     vector("kind 2, 12 with both", 11, P4 | refer, {"line 4 date": (2020, 5, 10), "line 1 date": (2070, 5, 11)})
 
 

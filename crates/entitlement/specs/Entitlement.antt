@@ -46,7 +46,7 @@ abbrev pub datesTests : Case → List Test
 datesTests c = (datesFault c gives Dates) ∷ []
 
 -- 7 status: the member is not deferred; 8 receiver: the receiving scheme is of another type than defined benefit; 9 service: less
--- than 3 months; 11 age before 10 refer: a member past pension age is not referred
+-- than 3 months; 11 age before 10 refer: a member who has reached pension age is not referred
 abbrev pub memberTests : Case → List Test
 memberTests c =
     (not (eqb (c .status) 1) gives Status) ∷

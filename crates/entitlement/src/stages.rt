@@ -18,7 +18,7 @@ fn dates_verdict(c: Case) -> Verdict
     refuse_if(dates_fault(c), Refusal::Dates, Verdict::Passed)
 }
 
-// The first of refusals 7 to 11 that applies, 11 before 10, or that none does.
+// The first of refusals 7 to 11 that applies, in the order of their list, or that none does.
 fn member_verdict(c: Case) -> Verdict
     ensures { λ r. ⌜ r ≡ first (entitlement.memberTests c) ⌝ }
 {
@@ -31,7 +31,7 @@ fn member_verdict(c: Case) -> Verdict
     refuse_if(c.status != 1, Refusal::Status, receiver)
 }
 
-// The first of refusals 6 to 11 that applies, or that none does.
+// The first of refusals 6 to 11 that applies, in the order of their lists, or that none does.
 pub fn entitlement_verdict(c: Case) -> Verdict
     ensures verdict { λ r. ⌜ r ≡ first (entitlement.entitlementTests c) ⌝ }
     ensures number { λ r. ⌜ verdictNumber r ≡ verdictNumber (first (entitlement.entitlementTests c)) ⌝ }

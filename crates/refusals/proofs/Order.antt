@@ -71,7 +71,7 @@ module _ (a b : List Test) (s t : Test) where
       go (Refused why) e = refl
       go Passed e = two (s .applies) (t .applies) (unless (first-none a e))
 
-  -- there it is the one of the two that stands first
+  -- where both apply and none before them does, it is the one of the two that stands first
   pub first-swap-both : NoneOf a → s .applies ≡ true → t .applies ≡ true
       → (first (a ++ (s ∷ t ∷ b)) ≡ Refused (s .refusal)) × (first (a ++ (t ∷ s ∷ b)) ≡ Refused (t .refusal))
   first-swap-both none p q = (first-past a (s ∷ t ∷ b) none ∙ rw p, first-past a (t ∷ s ∷ b) none ∙ rw q)

@@ -164,7 +164,7 @@ fn of_the_calendar() -> Vec<(Block, String)> {
     ]
 }
 
-/// Cases to be referred, a day before pension age and on it.
+/// Cases that meet refusal 10, a day before pension age and on its first day.
 fn of_the_order() -> Vec<(Block, String)> {
     let to_refer = |block| with_gmp(block, date(2016, 4, 5));
     let due_in_2021 = |day| due(date(1950, 1, 1), date(2021, 6, 1), date(2021, 6, day));

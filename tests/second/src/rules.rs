@@ -19,10 +19,10 @@ pub const RULES: [(&str, fn(&Case, &Answer) -> bool); 17] = [
     ("underpin 1p above gross", |case, answer| flagged(case) && holds(answer, |p| p.underpin == p.gross + 1)),
     ("underpin above gross alone", |_, answer| holds(answer, |p| underpin_tops(p, 0) && !underpin_tops(p, p.avc))),
     ("underpin above gross and AVC", |_, answer| holds(answer, |p| p.avc > 0 && underpin_tops(p, p.avc))),
-    ("kind 1, refer, a day to 60", |case, answer| to_refer(case, answer, 10) && at_60th_birthday(case, -1)),
-    ("kind 1, refer, 60 that day", |case, answer| to_refer(case, answer, 11) && at_60th_birthday(case, 0)),
-    ("kind 2, refer, a day to line", |case, answer| to_refer(case, answer, 10) && at_first_due(case, -1)),
-    ("kind 2, refer, line that day", |case, answer| to_refer(case, answer, 11) && at_first_due(case, 0)),
+    ("10 met, kind 1, day before", |case, answer| to_refer(case, answer, 10) && at_60th_birthday(case, -1)),
+    ("10 met, kind 1, on the day", |case, answer| to_refer(case, answer, 11) && at_60th_birthday(case, 0)),
+    ("10 met, kind 2, day before", |case, answer| to_refer(case, answer, 10) && at_first_due(case, -1)),
+    ("10 met, kind 2, on the day", |case, answer| to_refer(case, answer, 11) && at_first_due(case, 0)),
 ];
 
 /// Whether the first is 29 February and the second this day of a common year.
@@ -65,7 +65,7 @@ fn underpin_tops(payment: &Payment, more: i128) -> bool {
     payment.underpin > payment.gross + more
 }
 
-/// Whether a case with a pension to be referred is refused so.
+/// Whether the case meets refusal 10 and is given this refusal.
 fn to_refer(case: &Case, answer: &Answer, refusal: Refusal) -> bool {
     matches!(answer, Err(found) if *found == refusal) && gmp_to_refer(case)
 }
