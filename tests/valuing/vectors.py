@@ -1231,15 +1231,15 @@ def payment():
 def too_old_or_refer():
     group("11 age before 10 refer")
     refer = KIND_1_FAULTS[10]
-    referred = P54 | refer
-    vector("kind 1, age 59", 10, referred, {"guarantee": (2027, 5, 31)})
-    vector("kind 1, age 60", 11, referred, {"guarantee": (2027, 6, 1)})
-    vector("kind 1, age 61", 11, referred, {"guarantee": (2028, 6, 1)})
-    not_referred = P54 | {"flags": 2, "state pension date": (2016, 4, 6)}
-    vector("kind 1, state pension date 6 April 2016, age 59", only("2,034.00"), not_referred, {"guarantee": (2027, 5, 31)})
-    vector("kind 1, state pension date 6 April 2016, age 60", 11, not_referred, {"guarantee": (2027, 6, 1)})
+    meets_10 = P54 | refer
+    vector("kind 1, age 59", 10, meets_10, {"guarantee": (2027, 5, 31)})
+    vector("kind 1, age 60", 11, meets_10, {"guarantee": (2027, 6, 1)})
+    vector("kind 1, age 61", 11, meets_10, {"guarantee": (2028, 6, 1)})
+    misses_10 = P54 | {"flags": 2, "state pension date": (2016, 4, 6)}
+    vector("kind 1, state pension date 6 April 2016, age 59", only("2,034.00"), misses_10, {"guarantee": (2027, 5, 31)})
+    vector("kind 1, state pension date 6 April 2016, age 60", 11, misses_10, {"guarantee": (2027, 6, 1)})
     for number in (7, 8, 9):
-        vector(f"kind 1, {number} with both", number, referred, {"guarantee": (2027, 6, 1)} | KIND_1_FAULTS[number])
+        vector(f"kind 1, {number} with both", number, meets_10, {"guarantee": (2027, 6, 1)} | KIND_1_FAULTS[number])
     older = P25 | {"birth": (1950, 1, 1)} | refer
     vector("kind 2, line 1 on the guarantee date", 11, older, {"line 1 date": (2020, 5, 10)})
     vector("kind 2, line 1 a day after", 10, older, {"line 1 date": (2020, 5, 11)})
