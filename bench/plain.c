@@ -43,8 +43,8 @@ struct record {
 };
 struct items { uint64_t payment, pension, lump, survivor, deduction, underpin, avc; };
 
-static const char *const names[16] = {"", "length", "check", "kind", "reserved", "range", "dates", "status",
-    "receiver", "service", "refer", "age", "factor", "debit", "negative", "buffer"};
+static const char *const names[18] = {"", "length", "check", "kind", "reserved", "range", "dates", "status",
+    "receiver", "service", "refer", "age", "factor", "debit", "negative", "buffer", "", "order"};
 
 static uint16_t u16(const uint8_t *b) { uint16_t x; memcpy(&x, b, 2); return x; }
 static uint32_t u32(const uint8_t *b) { uint32_t x; memcpy(&x, b, 4); return x; }
@@ -164,6 +164,9 @@ static int value(const struct record *c, struct items *m)
         for (unsigned k = 1; k < c->count; k++)
             if (!before(c->lines[k].date, c->lines[0].date))
                 return 6;
+        for (unsigned k = 2; k < c->count; k++)
+            if (!before(c->lines[k].date, c->lines[k - 1].date))
+                return 17;
     }
     if (c->status != 1)
         return 7;

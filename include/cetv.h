@@ -32,6 +32,7 @@
  *                  counted from 1, summed
  *
  * Amounts go to 1,000,000,000 pence. Every byte that no field names is zero.
+ * In kind 2 each line has an earlier date than the line before it.
  */
 #ifndef CETV_H
 #define CETV_H
@@ -49,7 +50,8 @@ extern "C" {
 #define CETV_LINE_SIZE 256
 
 /* The refusals, by the number that a line gives, with their names there. The
- * first that applies is given, in this order: 15, 1 to 9, 11, 10, 12 to 14. */
+ * first that applies is given, in this order: 15, 1 to 6, 17, 7 to 9, 11, 10,
+ * 12 to 14. */
 enum cetv_refusal {
     CETV_LENGTH = 1,    /* length: the block is not 512 bytes */
     CETV_CHECK = 2,     /* check: the check differs */
@@ -65,7 +67,8 @@ enum cetv_refusal {
     CETV_FACTOR = 12,   /* factor: the tables have no row */
     CETV_DEBIT = 13,    /* debit: above the revalued amount it reduces */
     CETV_NEGATIVE = 14, /* negative: the total is below zero */
-    CETV_BUFFER = 15    /* buffer: fewer than 256 bytes lent (the answer is 0) */
+    CETV_BUFFER = 15,   /* buffer: fewer than 256 bytes lent (the answer is 0) */
+    CETV_ORDER = 17     /* order: dates of lines 2 to 4 that do not strictly fall */
 };
 
 /* Values one block and forms its line at the start of out.

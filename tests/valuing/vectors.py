@@ -31,6 +31,7 @@ REFUSALS = {
     12: "factor",
     13: "debit",
     14: "negative",
+    17: "order",
 }
 LIMIT = 1_000_000_000  # the largest amount, in pence
 
@@ -204,6 +205,12 @@ def dates_fault(case):
     return first < moved_on(birth, 65) or any(day >= first for day in others)
 
 
+def order_fault(case):
+    """Lines 2 to 4 do not run from the latest date to the earliest, or two are alike."""
+    others = [real_day(line["date"]) for line in lines_of(case)[1:]]
+    return case["kind"] == 2 and others != sorted(set(others), reverse=True)
+
+
 def refer_fault(case):
     return bool(case["flags"] & 2) and real_day(case["state pension date"]) < datetime.date(2016, 4, 6)
 
@@ -267,6 +274,7 @@ FAULTS_IN_ORDER = [
     (4, reserved_fault),
     (5, range_fault),
     (6, dates_fault),
+    (17, order_fault),
     (7, lambda case: case["status"] != 1),
     (8, lambda case: case["receiving scheme"] != 1),
     (9, lambda case: case["months"] < 3),
@@ -824,11 +832,11 @@ def dates():
     vector("line 1 the day before the 65th birthday", 6, P25, {"line 1 date": (2045, 5, 9)})
     vector("born a day later", 6, P25, {"birth": (1980, 5, 11)})
     vector("born a day earlier", P25_PAID, P25, {"birth": (1980, 5, 9)})
-    # line i is then 25 years ahead too
-    before = {2: "3,852.00", 3: "3,823.00", 4: "3,793.00"}
+    # line 2 is then 25 years ahead too; lines 3 and 4 are then later than the line before
+    before = {2: only("3,852.00"), 3: 17, 4: 17}
     for i in (2, 3, 4):
         vector(f"line {i} on the date of line 1", 6, P4, {f"line {i} date": (2045, 5, 10)})
-        vector(f"line {i} the day before line 1", only(before[i]), P4, {f"line {i} date": (2045, 5, 9)})
+        vector(f"line {i} the day before line 1", before[i], P4, {f"line {i} date": (2045, 5, 9)})
         vector(f"line {i} a year after line 1", 6, P4, {f"line {i} date": (2046, 5, 10)})
     leap = P25 | {"birth": (1980, 2, 29), "guarantee": (2020, 3, 1)}
     vector("born 29 February 1980, line 1 on 27 February 2045", 6, leap, {"line 1 date": (2045, 2, 27)})
@@ -879,11 +887,12 @@ def ages():
     vector("kind 2, line 1 on 31 December 2199", 12, older, {"line 1 date": (2199, 12, 31)})
     vector("kind 2, line 1 of four 51 years ahead", 12, P4, {"line 1 date": (2071, 5, 10)})
     vector("kind 2, line 1 of four 50 years ahead", only("3,506.00"), P4, {"line 1 date": (2070, 5, 10)})
-    a_day_ahead = {2: "4,633.00", 3: "4,604.00", 4: "4,574.00"}
+    # the last of 2, 3 and 4 lines, at 17.08
+    a_day_ahead = {2: "2,635.00", 3: "3,590.00", 4: "4,574.00"}
     for i in (2, 3, 4):
-        vector(f"kind 2, line {i} on the guarantee date", 11, P4, {f"line {i} date": (2020, 5, 10)})
-        vector(f"kind 2, line {i} before the guarantee date", 11, P4, {f"line {i} date": (2019, 5, 10)})
-        vector(f"kind 2, line {i} a day ahead", only(a_day_ahead[i]), P4, {f"line {i} date": (2020, 5, 11)})
+        vector(f"kind 2, line {i} on the guarantee date", 11, lines_up_to(i), {f"line {i} date": (2020, 5, 10)})
+        vector(f"kind 2, line {i} before the guarantee date", 11, lines_up_to(i), {f"line {i} date": (2019, 5, 10)})
+        vector(f"kind 2, line {i} a day ahead", only(a_day_ahead[i]), lines_up_to(i), {f"line {i} date": (2020, 5, 11)})
 
 
 def leap_days():
@@ -1060,18 +1069,18 @@ def several_lines():
     names = ["date"] + AMOUNTS
     for order in ((2, 4, 3), (3, 2, 4), (3, 4, 2), (4, 2, 3), (4, 3, 2)):
         moved = {f"line {to} {name}": four[f"line {start} {name}"] for to, start in zip((2, 3, 4), order) for name in names}
-        vector(f"lines in the order 1 {order}", paid("9,981.30", **items_paid), four, moved)
+        vector(f"lines in the order 1 {order}", 17, four, moved)
     # 90, 180, 270 and 360 pounds: 834.30 + 1,719.00 + 2,656.80 + 3,650.40
     vector("four lines with debits", paid("8,996.80", pension="8,860.50", survivor="136.30"), four, {
         f"line {i} pension debit": i * 10_00 for i in LINES
     })
-    vector("four lines on two days", only("3,708.00"), P4, {f"line {i} date": (2044, 5, 11) for i in (2, 3, 4)})
+    vector("four lines on two days", 17, P4, {f"line {i} date": (2044, 5, 11) for i in (2, 3, 4)})
     # 18,160 + 27,810 and 884.25 + 1,346.625
     vector("003, D, its first two lines", paid("48,200.88", pension="45,970.00", survivor="2,230.8750"), D_003, {
         "count": 2, "line 3 date": NO_DATE, "line 3 pension": 0, "line 3 survivor": 0,
     })
     swapped = {f"line {to} {name}": D_003[f"line {5 - to} {name}"] for to in (2, 3) for name in names}
-    vector("003, D, its reduced ages in the other order", paid("104,845.38", **D_PAID), D_003, swapped)
+    vector("003, D, its reduced ages in the other order", 17, D_003, swapped)
 
 
 def largest():
@@ -1179,6 +1188,7 @@ KIND_2_FAULTS = {
     4: {"line 4 lump sum": 1},
     5: {"case number": 0},
     6: {"leaving": (2020, 5, 11)},
+    17: {"line 2 date": (2043, 5, 10)},
     7: {"status": 2},
     8: {"receiving scheme": 2},
     9: {"months": 2},
@@ -1251,6 +1261,44 @@ def too_old_or_refer():
     vector("kind 2, 12 with both", 11, P4 | refer, {"line 4 date": (2020, 5, 10), "line 1 date": (2070, 5, 11)})
 
 
+def order_of_lines():
+    group("17 order")
+    # 25, 24, 23 and 22 years ahead are 9.27, 9.55, 9.84 and 10.14; a line moved to the next row ahead has the row before
+    vector("two lines a day apart", only("1,854.00"), lines_up_to(2), {"line 2 date": (2045, 5, 9)})
+    three = lines_up_to(3)
+    vector("three lines, line 3 a day before line 2", only("2,837.00"), three, {"line 3 date": (2044, 5, 9)})
+    vector("three lines, line 3 on the date of line 2", 17, three, {"line 3 date": (2044, 5, 10)})
+    vector("three lines, line 3 a day after line 2", 17, three, {"line 3 date": (2044, 5, 11)})
+    vector("three lines, line 2 a day after line 3", only("2,866.00"), three, {"line 2 date": (2043, 5, 11)})
+    vector("three lines, line 2 on the date of line 3", 17, three, {"line 2 date": (2043, 5, 10)})
+    vector("three lines, line 2 a day before line 3", 17, three, {"line 2 date": (2043, 5, 9)})
+    vector("four lines, line 3 a day before line 2", only("3,851.00"), P4, {"line 3 date": (2044, 5, 9)})
+    vector("four lines, line 3 on the date of line 2", 17, P4, {"line 3 date": (2044, 5, 10)})
+    vector("four lines, line 3 a day after line 2", 17, P4, {"line 3 date": (2044, 5, 11)})
+    vector("four lines, line 4 a day before line 3", only("3,850.00"), P4, {"line 4 date": (2043, 5, 9)})
+    vector("four lines, line 4 on the date of line 3", 17, P4, {"line 4 date": (2043, 5, 10)})
+    vector("four lines, line 4 a day after line 3", 17, P4, {"line 4 date": (2043, 5, 11)})
+    vector("four lines, line 4 on the date of line 2", 17, P4, {"line 4 date": (2044, 5, 10)})
+    vector("four lines, line 3 a day before line 4", 17, P4, {"line 3 date": (2042, 5, 9)})
+    vector("four lines, from the earliest to the latest", 17, P4, {"line 2 date": (2042, 5, 10), "line 4 date": (2044, 5, 10)})
+    vector("four lines a day apart", only("3,708.00"), P4, {f"line {i} date": (2045, 5, 11 - i) for i in (2, 3, 4)})
+    # The year decides, then the month, then the day.
+    vector("line 3 a month before line 2, its day later", only("3,851.00"), P4, {"line 3 date": (2044, 4, 11)})
+    vector("line 3 a month after line 2, its day earlier", 17, P4, {"line 3 date": (2044, 6, 9)})
+    vector("line 4 a year before line 3, its month later", only("3,850.00"), P4, {"line 4 date": (2042, 12, 31)})
+    vector("line 4 a year after line 3, its month earlier", 17, P4, {"line 4 date": (2044, 1, 1)})
+    leap = P4 | {"line 2 date": (2044, 3, 1)}
+    vector("29 February after 1 March", only("3,851.00"), leap, {"line 3 date": (2044, 2, 29)})
+    vector("1 March after 29 February", 17, leap, {"line 2 date": (2044, 2, 29), "line 3 date": (2044, 3, 1)})
+    alike = P4 | {"line 3 date": (2044, 5, 10)}
+    vector("lines 2 and 3 alike, line 4 on the date of line 1", 6, alike, {"line 4 date": (2045, 5, 10)})
+    vector("lines 2 and 3 alike, line 1 before the 65th birthday", 6, alike, {"line 1 date": (2045, 5, 9)})
+    vector("lines 1, 2 and 3 alike", 6, alike, {"birth": (1970, 1, 1), "line 1 date": (2044, 5, 10)})
+    for status in (2, 3, 4):
+        vector(f"lines 2 and 3 alike, status {status}", 17, alike, {"status": status})
+    vector("line 2 on the guarantee date", 17, P4, {"line 2 date": (2020, 5, 10)})
+
+
 def main():
     commands = ("stdin", "stdout", "list")
     if len(sys.argv) != 2 or sys.argv[1] not in commands:
@@ -1259,7 +1307,7 @@ def main():
     for vectors in (
         figures_at_the_edges, examples, clerks, every_row, kind, flags, reserved_amounts, codes, amounts, days, dates,
         entitlement, ages, leap_days, debits, negative, rounding, several_lines, largest, underpin, voluntary_fund, order,
-        payment, too_old_or_refer,
+        payment, too_old_or_refer, order_of_lines,
     ):
         vectors()
     if FAULTS:

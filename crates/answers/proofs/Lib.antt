@@ -1,3 +1,4 @@
 pub mod Acceptance
+pub mod Falling
 pub mod Comparison
 pub mod Figures

@@ -1,6 +1,6 @@
 -- Whether a transfer is open to the member: the tests of the dates, then those of the member, in their order.
 -- Assumes nothing.
-use Prim.Native.Nat.{ℕ}
+use Prim.Native.Nat.{ℕ, _-_}
 use mathlib.Core.Bool.{Bool, cond, not, _&&_, _||_}
 use mathlib.Core.List.{List, [], _∷_, _++_}
 use lib.Dec.{eqb, leb, ltb}
@@ -8,7 +8,7 @@ use Rattle.calendar.specs.Dates.{before}
 use Rattle.calendar.specs.Moving.{movedOn}
 use Rattle.calendar.specs.declared.Date.{Date}
 use Rattle.refusals.specs.Tests.{Test, _gives_}
-use Rattle.refusals.specs.declared.Refusal.the-variants.{Dates, Status, Receiver, Service, Refer, Age}
+use Rattle.refusals.specs.declared.Refusal.the-variants.{Dates, Order, Status, Receiver, Service, Refer, Age}
 use Rattle.cases.specs.Entries.{line, anyLine, ageOf}
 use Rattle.cases.specs.Flags.{gmpFlag}
 use Rattle.cases.specs.Kinds.{rulesOf}
@@ -27,6 +27,14 @@ datesFault c =
     before (c .guarantee) (c .leaving) ||
     (rulesOf (c .kind) .dated && (before (line c 0 .date) (movedOn 65 (c .birth)) || anyLine (misplaced c) c))
 
+-- a line after the second, within the count, that is not dated before the line that it follows
+abbrev pub outOfOrder : Case → ℕ → Line → Bool
+outOfOrder c i l = leb 2 i && ltb i (c .count) && not (before (l .date) (line c (i - 1) .date))
+
+-- 17 order: where lines are dated, the dates of those after the first do not strictly fall
+abbrev pub orderFault : Case → Bool
+orderFault c = rulesOf (c .kind) .dated && anyLine (outOfOrder c) c
+
 -- 10 refer: a guaranteed minimum pension, and state pension age reached before 6 April 2016
 abbrev pub newStatePension : Date
 newStatePension = record { year = 2016; month = 4; day = 6 }
@@ -43,7 +51,9 @@ abbrev pub ageFault : Case → Bool
 ageFault c = cond (rulesOf (c .kind) .dated) (anyLine (reached c) c) (leb (rulesOf (c .kind) .«pension_age») (ageOf c))
 
 abbrev pub datesTests : Case → List Test
-datesTests c = (datesFault c gives Dates) ∷ []
+datesTests c =
+    (datesFault c gives Dates) ∷
+    (orderFault c gives Order) ∷ []
 
 -- 7 status: the member is not deferred; 8 receiver: the receiving scheme is of another type than defined benefit; 9 service: less
 -- than 3 months; 11 age before 10 refer: a member who has reached pension age is not referred

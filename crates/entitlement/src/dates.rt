@@ -1,4 +1,4 @@
-// Refusals 6, 10 and 11, which look at dates.
+// Refusals 6, 10, 11 and 17, which look at dates.
 ghost use mathlib.Core.Path.{_≡_};
 ghost use Prim.Native.Nat.{_<_};
 ghost use Rattle.cases.specs.Entries.{anyLine};
@@ -30,6 +30,17 @@ pub(crate) fn dates_fault(c: Case) -> bool
     !before(c.birth, c.leaving)
         | before(c.guarantee, c.leaving)
         | (rules.dated & (calendar::before_birthday(first.date, c.birth, 65) | misplaced_fault(c)))
+}
+
+pub(crate) fn order_fault(c: Case) -> bool
+    ensures { λ r. ⌜ r ≡ entitlement.orderFault c ⌝ }
+{
+    let rules = rules_of(c.kind);
+    let b = c.lines[1];
+    let d = c.lines[2];
+    let e = c.lines[3];
+    rules.dated
+        & (((2 < c.count) & !before(d.date, b.date)) | ((3 < c.count) & !before(e.date, d.date)))
 }
 
 pub(crate) fn refer_fault(c: Case) -> bool

@@ -4,6 +4,7 @@ ghost use Rattle.refusals.specs.Tests.{first, verdictNumber};
 ghost use Rattle.entitlement.specs.Entitlement as entitlement;
 use crate::dates::age_fault;
 use crate::dates::dates_fault;
+use crate::dates::order_fault;
 use crate::dates::refer_fault;
 use cases::Case;
 use refusals::Refusal;
@@ -11,11 +12,14 @@ use refusals::Verdict;
 use refusals::or_else;
 use refusals::refuse_if;
 
-// Refusal 6, or that it does not apply.
+// The first of refusals 6 and 17 that applies, or that neither does.
 fn dates_verdict(c: Case) -> Verdict
     ensures { λ r. ⌜ r ≡ first (entitlement.datesTests c) ⌝ }
 {
-    refuse_if(dates_fault(c), Refusal::Dates, Verdict::Passed)
+    let impossible = dates_fault(c);
+    let out_of_order = order_fault(c);
+    let order = refuse_if(out_of_order, Refusal::Order, Verdict::Passed);
+    refuse_if(impossible, Refusal::Dates, order)
 }
 
 // The first of refusals 7 to 11 that applies, in the order of their list, or that none does.
@@ -31,7 +35,7 @@ fn member_verdict(c: Case) -> Verdict
     refuse_if(c.status != 1, Refusal::Status, receiver)
 }
 
-// The first of refusals 6 to 11 that applies, in the order of their lists, or that none does.
+// The first of refusals 6 to 11 and 17 that applies, in the order of their lists, or that none does.
 pub fn entitlement_verdict(c: Case) -> Verdict
     ensures verdict { λ r. ⌜ r ≡ first (entitlement.entitlementTests c) ⌝ }
     ensures number { λ r. ⌜ verdictNumber r ≡ verdictNumber (first (entitlement.entitlementTests c)) ⌝ }

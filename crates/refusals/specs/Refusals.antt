@@ -1,48 +1,46 @@
 -- The refusals: their numbers and names.
 -- Assumes nothing.
 use Prim.Native.Nat.{ℕ, _-_}
+use Prim.Native.String.{String}
 use mathlib.Core.List.{List, _++_}
 use mathlib.Core.Path.{_≡_}
 use lib.ListN.{length, replicate}
 use Rattle.buffers.specs.Text.{ascii}
 use Rattle.refusals.specs.declared.Refusal.{Refusal}
-use Rattle.refusals.specs.declared.Refusal.the-variants.{Length, Check, Kind, Reserved, Range, Dates, Status, Receiver, Service, Refer, Age, Factor, Debit, Negative, Buffer}
+use Rattle.refusals.specs.declared.Refusal.the-variants as refusal
 
--- a refusal's number
+-- a refusal's number and its name
+pub record Label : Type 0 where
+  pub number : ℕ
+  pub name : List ℕ
+
+infix 4 _named_
+abbrev pub _named_ : ℕ → String → Label
+_named_ n text = record { number = n; name = ascii text }
+
+abbrev pub label : Refusal → Label
+label refusal.Length = 1 named "length"
+label refusal.Check = 2 named "check"
+label refusal.Kind = 3 named "kind"
+label refusal.Reserved = 4 named "reserved"
+label refusal.Range = 5 named "range"
+label refusal.Dates = 6 named "dates"
+label refusal.Status = 7 named "status"
+label refusal.Receiver = 8 named "receiver"
+label refusal.Service = 9 named "service"
+label refusal.Refer = 10 named "refer"
+label refusal.Age = 11 named "age"
+label refusal.Factor = 12 named "factor"
+label refusal.Debit = 13 named "debit"
+label refusal.Negative = 14 named "negative"
+label refusal.Buffer = 15 named "buffer"
+label refusal.Order = 17 named "order"
+
 abbrev pub numberOf : Refusal → ℕ
-numberOf Length = 1
-numberOf Check = 2
-numberOf Kind = 3
-numberOf Reserved = 4
-numberOf Range = 5
-numberOf Dates = 6
-numberOf Status = 7
-numberOf Receiver = 8
-numberOf Service = 9
-numberOf Refer = 10
-numberOf Age = 11
-numberOf Factor = 12
-numberOf Debit = 13
-numberOf Negative = 14
-numberOf Buffer = 15
+numberOf r = label r .number
 
--- a refusal's name
 abbrev pub nameOf : Refusal → List ℕ
-nameOf Length = ascii "length"
-nameOf Check = ascii "check"
-nameOf Kind = ascii "kind"
-nameOf Reserved = ascii "reserved"
-nameOf Range = ascii "range"
-nameOf Dates = ascii "dates"
-nameOf Status = ascii "status"
-nameOf Receiver = ascii "receiver"
-nameOf Service = ascii "service"
-nameOf Refer = ascii "refer"
-nameOf Age = ascii "age"
-nameOf Factor = ascii "factor"
-nameOf Debit = ascii "debit"
-nameOf Negative = ascii "negative"
-nameOf Buffer = ascii "buffer"
+nameOf r = label r .name
 
 -- a text in sixteen bytes, spaces after it
 abbrev pub inSixteen : List ℕ → List ℕ

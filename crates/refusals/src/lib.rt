@@ -23,6 +23,7 @@ pub enum Refusal {
     Debit,
     Negative,
     Buffer,
+    Order,
 }
 
 // What tests in their order find: the first refusal that applies, or that none does.

@@ -27,6 +27,7 @@ fn label_of(r: Refusal) -> Label
         Refusal::Debit => Label(13, *b"debit           ", 5),
         Refusal::Negative => Label(14, *b"negative        ", 8),
         Refusal::Buffer => Label(15, *b"buffer          ", 6),
+        Refusal::Order => Label(17, *b"order           ", 5),
     }
 }
 

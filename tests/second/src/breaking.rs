@@ -6,7 +6,7 @@ use crate::random::Random;
 
 type Break = fn(&Model, &mut Random, &mut Block);
 
-/// Refusals 3 to 14 in the order in which they are tested. Where two are applied, the later refusal's goes first, so that
+/// Refusals 3 to 14 and 17 in the order in which they are tested. Where two are applied, the later refusal's goes first, so that
 /// the earlier one stays broken.
 pub const BREAKS: &[(Refusal, &str, Break)] = &[
     (3, "kind not listed", kind_not_listed),
@@ -28,7 +28,10 @@ pub const BREAKS: &[(Refusal, &str, Break)] = &[
     (6, "leaving after guarantee", leaving_after_guarantee),
     (6, "line 1 before the 65th birthday", line_1_early),
     (6, "other line not before line 1", other_line_late),
-    (7, "status", |_, random, block| block.put(at::STATUS, 1, random.pick(&[2, 3, 4]))),
+    (17, "two lines on one day", lines_alike),
+    (17, "a line later than the one before", line_rises),
+    (17, "order, not deferred either", order_not_deferred),
+    (7, "status", not_deferred),
     (8, "receiver", |_, random, block| block.put(at::RECEIVER, 1, random.pick(&[2, 3]))),
     (9, "service", |_, random, block| block.put(at::SERVICE, 2, random.below(3))),
     (11, "age", too_old),
@@ -254,6 +257,50 @@ fn other_line_late(model: &Model, random: &mut Random, block: &mut Block) {
     let last = block.count().min(4);
     let start = random.pick(&at::LINES[1..last]);
     block.put_day(start + at::DATE, random.at_edges(line_1, (line_1 + 4_000).min(last_day())));
+}
+
+/// The starts of two neighbouring lines, of which the first is not line 1. A block that has none becomes another block.
+fn neighbours(model: &Model, random: &mut Random, block: &mut Block) -> [usize; 2] {
+    while block.kind() != 2 || block.count() < 3 {
+        *block = acceptable_kind_2(model, random);
+    }
+    let second = random.between(2, block.count() as i64 - 1) as usize;
+    [at::LINES[second - 1], at::LINES[second]]
+}
+
+fn lines_alike(model: &Model, random: &mut Random, block: &mut Block) {
+    let [line, next] = neighbours(model, random, block);
+    if random.one_in(2) {
+        block.put_day(next + at::DATE, block.day(line + at::DATE));
+    } else {
+        block.put_day(line + at::DATE, block.day(next + at::DATE));
+    }
+}
+
+/// A line put after the one before it, a day at least, and still before line 1, or the two change places.
+fn line_rises(model: &Model, random: &mut Random, block: &mut Block) {
+    let [line, next] = neighbours(model, random, block);
+    let (day, next_day) = (block.day(line + at::DATE), block.day(next + at::DATE));
+    let before_line_1 = block.day(at::LINES[0] + at::DATE) - 1;
+    if day < next_day {
+        // It was broken so already.
+        return;
+    }
+    if day < before_line_1 && random.one_in(2) {
+        block.put_day(next + at::DATE, random.at_edges(day + 1, before_line_1));
+    } else {
+        block.put_day(line + at::DATE, next_day);
+        block.put_day(next + at::DATE, day);
+    }
+}
+
+fn order_not_deferred(model: &Model, random: &mut Random, block: &mut Block) {
+    line_rises(model, random, block);
+    not_deferred(model, random, block);
+}
+
+fn not_deferred(_: &Model, random: &mut Random, block: &mut Block) {
+    block.put(at::STATUS, 1, random.pick(&[2, 3, 4]));
 }
 
 fn state_pension_early(_: &Model, random: &mut Random, block: &mut Block) {

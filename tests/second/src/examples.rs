@@ -90,7 +90,7 @@ fn c_of_003() -> Block {
 }
 
 /// Pension age 68, and buy-outs to 67 and 65. The survivor's part is 33.75% of each pension.
-fn d_of_003() -> Block {
+pub fn d_of_003() -> Block {
     let mut block = member(2, 5, date(1979, 7, 3), date(2021, 12, 1), date(2021, 12, 1));
     block.put(at::COUNT, 1, 3);
     put_line_date(&mut block, 1, date(2047, 7, 3));

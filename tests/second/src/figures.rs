@@ -177,6 +177,34 @@ fn of_the_order() -> Vec<(Block, String)> {
     ]
 }
 
+/// Example D of 003 with lines 2 and 3 on these dates.
+fn reduced_ages(line_2: Date, line_3: Date) -> Block {
+    let mut block = d_of_003();
+    put_line_date(&mut block, 2, line_2);
+    put_line_date(&mut block, 3, line_3);
+    block
+}
+
+/// Example D, its reduced ages from the latest to the earliest and otherwise.
+fn of_the_lines() -> Vec<(Block, String)> {
+    let (july_2044, july_2046) = (date(2044, 7, 3), date(2046, 7, 3));
+    let refused = |refusal: &str| format!("1 5 refused {refusal}");
+    let mut active = reduced_ages(july_2044, july_2046);
+    active.put(at::STATUS, 1, 2);
+    vec![
+        (reduced_ages(july_2044, july_2046), refused("17 order")),
+        (reduced_ages(july_2046, july_2046), refused("17 order")),
+        // Rows 26, 25 and 25: 18,160.00, 27,810.00 and 50,985.00; 884.25, 1,346.625 and 2,468.8125.
+        (
+            reduced_ages(july_2046, date(2046, 7, 2)),
+            "1 5 pay 101654.69 pension 96955.0000 lump 0.0000 survivor 4699.6875 deduct 0.0000 underpin 0.00 avc 0.00"
+                .into(),
+        ),
+        (reduced_ages(july_2044, date(2047, 7, 3)), refused("6 dates")),
+        (active, refused("17 order")),
+    ]
+}
+
 /// The examples' lines, from the file that the program's test is held to as well.
 fn of_the_notes() -> Vec<(Block, String)> {
     let lines = include_str!("../../examples/expected.txt").lines();
@@ -196,7 +224,7 @@ pub fn try_figures(model: &Model) -> Result<usize, String> {
         }
     }
     figures.push((Block::zeros(), "3 0 refused 3 kind".into()));
-    figures.extend(of_the_sum().into_iter().chain(of_the_calendar()).chain(of_the_order()));
+    figures.extend(of_the_sum().into_iter().chain(of_the_calendar()).chain(of_the_order()).chain(of_the_lines()));
     for (block, line) in &figures {
         let block = sealed(block.clone());
         let place: u32 = line.split(' ').next().unwrap().parse().unwrap();

@@ -278,7 +278,7 @@ pub fn acceptable_kind_1(model: &Model, random: &mut Random) -> Block {
 }
 
 /// The latest birth whose 65th birthday is not after this day.
-fn latest_birth(line_1: i64) -> i64 {
+pub fn latest_birth(line_1: i64) -> i64 {
     let d = date_of(line_1);
     // From a day later: two days may have one birthday, 28 February of a common year.
     let mut birth = day_number(date(d.year - 65, d.month, d.day)) + 1;
@@ -294,19 +294,26 @@ fn put_dates_kind_2(random: &mut Random, block: &mut Block) {
     block.put_date(at::GUARANTEE, guarantee);
     let after = day_number(guarantee) + 1;
     let line_1 = random.at_edges(moved_on(guarantee, years - 1) + 1, moved_on(guarantee, years));
-    block.put_day(at::LINES[0] + at::DATE, line_1);
     block.put_day(at::BIRTH, random.at_edges(first_day(), latest_birth(line_1)));
     put_leaving(random, block);
-    let count = if line_1 > after { random.between(1, 4) } else { 1 };
-    block.put(at::COUNT, 1, count as u64);
-    for &start in &at::LINES[1..count as usize] {
+    let others = if line_1 > after { random.below(4) } else { 0 };
+    let mut days = vec![line_1];
+    for _ in 0..others {
         let anniversary = moved_on(guarantee, random.between(1, years));
-        let day = match random.below(4) {
+        let day = match random.below(5) {
             0 => anniversary,
             1 => anniversary + 1,
+            2 => random.pick(&days) - 1,
             _ => random.at_edges(after, line_1 - 1),
         };
-        block.put_day(start + at::DATE, day.clamp(after, line_1 - 1));
+        days.push(day.clamp(after, line_1 - 1));
+    }
+    // From the latest to the earliest, no two alike.
+    days.sort_by(|day, other| other.cmp(day));
+    days.dedup();
+    block.put(at::COUNT, 1, days.len() as u64);
+    for (start, &day) in at::LINES.iter().zip(&days) {
+        block.put_day(start + at::DATE, day);
     }
 }
 

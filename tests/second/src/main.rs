@@ -29,7 +29,8 @@ const LEAST_REACHED: u64 = 100;
 #[derive(Default)]
 struct Reached {
     sorts: [u64; SORTS.len()],
-    refusals: [u64; 16],
+    /// By number; some numbers have no refusal.
+    refusals: [u64; 32],
     paid: [u64; 3],
     ages: Vec<u64>,
     years: Vec<u64>,
@@ -59,7 +60,8 @@ impl Reached {
     }
 
     fn enough(&self) -> bool {
-        self.refusals[1..].iter().chain(&self.paid[1..]).chain(&self.rules).all(|&n| n >= LEAST_REACHED)
+        REFUSALS.iter().all(|(number, _)| self.refusals[*number] >= LEAST_REACHED)
+            && self.paid[1..].iter().chain(&self.rules).all(|&n| n >= LEAST_REACHED)
             && self.ages[22..].iter().chain(&self.years[1..]).all(|&n| n > 0)
     }
 
@@ -68,7 +70,7 @@ impl Reached {
             println!("  {name:<28}{n:>10}");
         }
         println!("answers reached (each at least {LEAST_REACHED} times)");
-        for (number, name) in NAMES.iter().enumerate().skip(1) {
+        for (number, name) in REFUSALS {
             println!("  refusal {number:>2} {name:<17}{:>10}", self.refusals[number]);
         }
         println!("  {:<28}{:>10}", "paid, kind 1", self.paid[1]);

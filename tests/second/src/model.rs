@@ -11,12 +11,32 @@ pub const LARGEST_AMOUNT: u64 = 1_000_000_000;
 pub const TRANSFERRED_IN: u64 = 1;
 pub const HAS_GMP: u64 = 2;
 
-/// The refusals' names by number; a refusal is its number.
-pub const NAMES: [&str; 16] = [
-    "", "length", "check", "kind", "reserved", "range", "dates", "status", "receiver", "service", "refer", "age",
-    "factor", "debit", "negative", "buffer",
-];
+/// A refusal is its number.
 pub type Refusal = usize;
+
+/// The refusals with their names.
+pub const REFUSALS: [(Refusal, &str); 16] = [
+    (1, "length"),
+    (2, "check"),
+    (3, "kind"),
+    (4, "reserved"),
+    (5, "range"),
+    (6, "dates"),
+    (7, "status"),
+    (8, "receiver"),
+    (9, "service"),
+    (10, "refer"),
+    (11, "age"),
+    (12, "factor"),
+    (13, "debit"),
+    (14, "negative"),
+    (15, "buffer"),
+    (17, "order"),
+];
+
+pub fn name_of(refusal: Refusal) -> &'static str {
+    REFUSALS.iter().find(|(number, _)| *number == refusal).unwrap().1
+}
 
 /// Offsets of the fields in a block, and below them those in a line.
 pub mod at {
@@ -361,15 +381,19 @@ impl Model {
         }
     }
 
-    /// Refusals 6 to 14, or the payment. Refusals 3 to 5 are decided by `read`: no case is built by hand here.
+    /// Steps 1 to 3 of the sum, line by line as they stand, with the underpin and the AVC; none where a line has no row.
+    pub fn items(&self, case: &Case) -> Option<Payment> {
+        let factors: Option<Vec<Factors>> = case.used().iter().map(|line| self.factors(case, line)).collect();
+        Some(items(case, &factors?))
+    }
+
+    /// Refusals 6 to 14 and 17, or the payment. Refusals 3 to 5 are decided by `read`: no case is built by hand here.
     pub fn value(&self, case: &Case) -> Result<Payment, Refusal> {
         refused_before_factors(case)?;
-        let factors: Option<Vec<Factors>> = case.used().iter().map(|line| self.factors(case, line)).collect();
-        let factors = factors.ok_or(12usize)?;
+        let mut payment = self.items(case).ok_or(12usize)?;
         if case.used().iter().any(|line| debit_broken(case, line)) {
             return Err(13);
         }
-        let mut payment = items(case, &factors);
         let total = signed_total(&payment);
         if total < 0 {
             return Err(14);
@@ -456,6 +480,13 @@ fn dates_broken(case: &Case) -> bool {
                 || case.used()[1..].iter().any(|line| day_number(line.date) >= first_line)))
 }
 
+/// Of lines 2 to 4 of kind 2, as far as the count goes, a later one is not dated before an earlier one.
+pub fn order_broken(case: &Case) -> bool {
+    let lines = if case.kind == 2 { &case.used()[1..] } else { &[] };
+    let not_before = |line: &Line, earlier: &Line| day_number(line.date) >= day_number(earlier.date);
+    lines.iter().enumerate().any(|(place, line)| lines[..place].iter().any(|earlier| not_before(line, earlier)))
+}
+
 pub fn gmp_to_refer(case: &Case) -> bool {
     case.has(HAS_GMP) && day_number(case.state_pension) < day_number(date(2016, 4, 6))
 }
@@ -469,10 +500,11 @@ fn past_pension_age(case: &Case) -> bool {
     }
 }
 
-/// Refusals 6 to 11, in the order in which they are tested: 11 before 10.
+/// Refusals 6 to 11 and 17, in the order in which they are tested: 17 straight after 6, and 11 before 10.
 fn refused_before_factors(case: &Case) -> Result<(), Refusal> {
     let rules = [
         (6, dates_broken(case)),
+        (17, order_broken(case)),
         (7, case.status != 1),
         (8, case.receiver != 1),
         (9, case.service < 3),
@@ -490,7 +522,6 @@ fn debit_broken(case: &Case, line: &Line) -> bool {
         || line.lump_debit as i128 > revalued(line.lump, case.revaluation)
 }
 
-/// Steps 1 to 3 of the sum, with the underpin and the AVC.
 fn items(case: &Case, factors: &[Factors]) -> Payment {
     let mut sum = Payment { avc: case.avc as i128, ..Payment::default() };
     for (line, factor) in case.used().iter().zip(factors) {
@@ -522,7 +553,7 @@ fn pounds_with_four_decimals(hundredths: i128) -> String {
 
 pub fn form_line(place: u32, number: u64, answer: &Result<Payment, Refusal>) -> String {
     match answer {
-        Err(refusal) => format!("{place} {number} refused {refusal} {}\n", NAMES[*refusal]),
+        Err(refusal) => format!("{place} {number} refused {refusal} {}\n", name_of(*refusal)),
         Ok(payment) => format!(
             "{place} {number} pay {} pension {} lump {} survivor {} deduct {} underpin {} avc {}\n",
             pounds(payment.paid),

@@ -162,6 +162,97 @@ fn try_pair(model: &Model, random: &mut Random, lent: &mut Lent, fields: &[usize
     Ok(())
 }
 
+/// Every order of so many things, the one in which they stand first.
+fn orders(count: usize) -> Vec<Vec<usize>> {
+    let Some(last) = count.checked_sub(1) else { return vec![vec![]] };
+    let with_last_at = |place: usize| {
+        orders(last).into_iter().map(move |mut order| {
+            order.insert(last - place, last);
+            order
+        })
+    };
+    (0..count).flat_map(with_last_at).collect()
+}
+
+/// An accepted case of kind 2 with more than one line, each of which can stand in any place and can be a case's only line.
+fn draw_lines(model: &Model, random: &mut Random) -> Block {
+    loop {
+        let mut block = acceptable_kind_2(model, random);
+        let line_1 = at::LINES[0];
+        for only_on_line_1 in [at::ADDITIONAL, at::DEPENDANT] {
+            block.put(line_1 + only_on_line_1, 8, 0);
+        }
+        let most = block.revalued_pension(line_1).min(LARGEST_AMOUNT as i128) as u64;
+        block.put(line_1 + at::DEBIT, 8, block.get(line_1 + at::DEBIT, 8).min(most));
+        let days = at::LINES[..block.count()].iter().map(|start| block.day(start + at::DATE));
+        if block.count() > 1 && days.min().is_some_and(|day| latest_birth(day) >= first_day()) {
+            block.seal();
+            return block;
+        }
+    }
+}
+
+/// The block with its lines in this order.
+fn in_order(block: &Block, order: &[usize]) -> Block {
+    let mut moved = block.clone();
+    for (start, &from) in at::LINES.iter().zip(order) {
+        let line = at::LINES[from]..at::LINES[from] + at::LINE_LENGTH;
+        moved.0[*start..start + at::LINE_LENGTH].copy_from_slice(&block.0[line]);
+    }
+    moved.seal();
+    moved
+}
+
+/// The block with one of its lines alone, of a member born early enough for it to be line 1.
+fn with_line_alone(block: &Block, place: usize) -> Block {
+    let mut alone = in_order(block, &[place]);
+    for start in &at::LINES[1..] {
+        alone.0[*start..start + at::LINE_LENGTH].fill(0);
+    }
+    alone.put(at::COUNT, 1, 1);
+    let latest = latest_birth(alone.day(at::LINES[0] + at::DATE));
+    alone.put_day(at::BIRTH, latest.min(alone.day(at::BIRTH)));
+    alone.seal();
+    alone
+}
+
+/// The lines of an accepted case in every order. In any other than its own it is refused: with 6 where line 1 is not first, as the
+/// others are then not all before the first, else with 17. The items are the same in every order, and are those of its lines alone.
+fn try_orders(model: &Model, random: &mut Random, lent: &mut Lent) -> Result<u64, String> {
+    let block = draw_lines(model, random);
+    let failed = |what: &str, order: &[usize]| Err(format!("{what}: lines {order:?} of {}", hex(&block.0)));
+    let Some(whole) = parse(&line_of(lent, &block)) else {
+        return failed("an accepted case is not paid", &[]);
+    };
+    let orders = orders(block.count());
+    let mut summed = [0; 4];
+    for place in 0..block.count() {
+        let Some(line) = parse(&line_of(lent, &with_line_alone(&block, place))) else {
+            return failed("a line alone is not paid", &[place]);
+        };
+        summed = std::array::from_fn(|item| summed[item] + line.items[item]);
+    }
+    if summed != whole.items {
+        return failed("the items are not those of the lines alone", &[]);
+    }
+    for order in &orders {
+        let moved = in_order(&block, order);
+        let items = model.items(&case_of(&moved.0)).unwrap();
+        if [items.pension, items.lump, items.survivor, items.deduct] != whole.items {
+            return failed("the items are not the same in another order", order);
+        }
+        if *order == orders[0] {
+            continue;
+        }
+        let refusal = if order[0] == 0 { 17 } else { 6 };
+        let number = block.get(at::NUMBER, 4);
+        if line_of(lent, &moved) != form_line(1, number, &Err(refusal)) {
+            return failed("another order is not refused so", order);
+        }
+    }
+    Ok(orders.len() as u64 - 1)
+}
+
 /// Tries a block with a buffer of every length from 0 to 600, and three contents of it.
 fn try_buffers(model: &Model, lent: &mut Lent, block: &[u8], place: u32) -> Result<u64, String> {
     let (number, answer) = model.answer(block);
@@ -244,12 +335,18 @@ pub fn try_all(model: &Model, blocks: u64, seed: u64) -> Result<Vec<(&'static st
         try_pair(model, random, lent, &BENEFITS).map_err(|e| format!("{e}; seed {seed}, pair {index}"))?;
         try_pair(model, random, lent, &REDUCTIONS).map_err(|e| format!("{e}; seed {seed}, pair {index}"))?;
     }
+    let mut other_orders = 0;
+    for index in 0..(blocks / 50).max(1_000) {
+        let random = &mut Random::new(seed, 4, index);
+        other_orders += try_orders(model, random, lent).map_err(|e| format!("{e}; seed {seed}, order {index}"))?;
+    }
     let random = &mut Random::new(seed, 3, 0);
     let [buffers, places, lengths] =
         try_blocks(model, random, lent, (blocks / 5_000).clamp(20, 1_000)).map_err(|e| format!("{e}, seed {seed}"))?;
     Ok(vec![
         ("pairs, larger benefit", pairs),
         ("pairs, larger reduction", pairs),
+        ("lines in another order", other_orders),
         ("buffers of 0 to 600 bytes", buffers),
         ("places", places),
         ("blocks of 0 to 600 bytes", lengths),

@@ -5,7 +5,7 @@ use crate::model::*;
 type Answer = Result<Payment, Refusal>;
 
 /// A rule's name, and whether a block with this case and this answer falls under it.
-pub const RULES: [(&str, fn(&Case, &Answer) -> bool); 17] = [
+pub const RULES: [(&str, fn(&Case, &Answer) -> bool); 26] = [
     ("born 29 Feb, aged at 27 Feb", |case, answer| aged(case, 27) && answer.is_ok()),
     ("born 29 Feb, aged at 28 Feb", |case, answer| aged(case, 28) && answer.is_ok()),
     ("65 on 28 Feb, line on 27 Feb", |case, answer| aged_65(case, 27) && matches!(answer, Err(6)) && alone(case)),
@@ -23,6 +23,15 @@ pub const RULES: [(&str, fn(&Case, &Answer) -> bool); 17] = [
     ("10 met, kind 1, on the day", |case, answer| to_refer(case, answer, 11) && at_60th_birthday(case, 0)),
     ("10 met, kind 2, day before", |case, answer| to_refer(case, answer, 10) && at_first_due(case, -1)),
     ("10 met, kind 2, on the day", |case, answer| to_refer(case, answer, 11) && at_first_due(case, 0)),
+    ("two lines, paid", |case, answer| case.count == 2 && answer.is_ok()),
+    ("lines 2, 3 a day apart, paid", |case, answer| answer.is_ok() && days_apart(case, 1) == Some(1)),
+    ("lines 2, 3 alike, 17", |case, answer| *answer == Err(17) && days_apart(case, 1) == Some(0) && falls(case, 2)),
+    ("line 3 later than 2, 17", |case, answer| *answer == Err(17) && rises(case, 1) && falls(case, 2)),
+    ("lines 3, 4 a day apart, paid", |case, answer| answer.is_ok() && days_apart(case, 2) == Some(1)),
+    ("lines 3, 4 alike, 17", |case, answer| *answer == Err(17) && days_apart(case, 2) == Some(0) && falls(case, 1)),
+    ("line 4 later than 3, 17", |case, answer| *answer == Err(17) && rises(case, 2) && falls(case, 1)),
+    ("17 met, 6 given", |case, answer| *answer == Err(6) && order_broken(case)),
+    ("7 met, 17 given", |case, answer| *answer == Err(17) && case.status != 1),
 ];
 
 /// Whether the first is 29 February and the second this day of a common year.
@@ -63,6 +72,21 @@ fn flagged(case: &Case) -> bool {
 /// Whether the underpin is above the gross value with this much more.
 fn underpin_tops(payment: &Payment, more: i128) -> bool {
     payment.underpin > payment.gross + more
+}
+
+/// The days from the line after one to that line, counted from 0, where the count covers both.
+fn days_apart(case: &Case, place: usize) -> Option<i64> {
+    let line = case.used().get(place)?;
+    Some(day_number(line.date) - day_number(case.used().get(place + 1)?.date))
+}
+
+fn rises(case: &Case, place: usize) -> bool {
+    days_apart(case, place).is_some_and(|days| days < 0)
+}
+
+/// Whether the line after one is dated before it, or the count does not cover both.
+fn falls(case: &Case, place: usize) -> bool {
+    days_apart(case, place).is_none_or(|days| days > 0)
 }
 
 /// Whether the case meets refusal 10 and is given this refusal.
