@@ -1,8 +1,8 @@
 #!/usr/bin/env python3
 """Writes a case file of N blocks to standard output, the same for the same N: cases of both kinds with one to four
 lines, about one in eight of them refused, one in twenty-five dated around 29 February, one in twenty-five with a
-guaranteed minimum pension and dated around pension age, one in fifty with a line dated around the one that it
-follows, and one in twenty with a transfer in.
+guaranteed minimum pension and dated around pension age, one in fifty with a line dated within a day of the
+one above it, and one in twenty with a transfer in.
 
     make_blocks.py N
 """
@@ -42,13 +42,16 @@ def around_pension_age(i, b, kind, count):
 
 
 def around_order(i, b, count):
-    """Line 3 or, of four lines, line 4: a day before the line that it follows, on its date, or a day after."""
+    """Line 3, or of four lines line 3 or 4, a day before the line above it, on its date or a day after; one in seven
+    with a date of leaving after the guarantee date."""
     n = i // 50
     k = 2 + n // 12 % (count - 2)
     at = 64 + 72 * (k - 1)
     year, = struct.unpack_from("<H", b, at)
     b[at:at + 4] = date(year, 6, 15)
     b[at + 72:at + 76] = date(year, 6, 14 + n % 3)
+    if n % 7 == 6:
+        b[20:24] = date(2021, 1, 1)
 
 
 def block(i):
@@ -74,7 +77,7 @@ def block(i):
         around_leap_day(i, b, kind, count)
     if i % 50 in (4, 5):
         around_pension_age(i, b, kind, count)
-    if i % 50 in (7, 19) and count > 2:
+    if i % 50 in (7, 19) and count > 2:  # those at 19 are not deferred
         around_order(i, b, count)
     if i % 20 == 3:
         b[10] = 1

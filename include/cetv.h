@@ -58,7 +58,7 @@ enum cetv_refusal {
     CETV_KIND = 3,      /* kind: not listed, or too few or too many lines for it */
     CETV_RESERVED = 4,  /* reserved: something that must be zero is not */
     CETV_RANGE = 5,     /* range: a number, code or date out of its range */
-    CETV_DATES = 6,     /* dates: dates in an order that cannot be */
+    CETV_DATES = 6,     /* dates: dates that contradict each other */
     CETV_STATUS = 7,    /* status: not deferred */
     CETV_RECEIVER = 8,  /* receiver: not a defined benefit scheme */
     CETV_SERVICE = 9,   /* service: under 3 months */
@@ -68,7 +68,7 @@ enum cetv_refusal {
     CETV_DEBIT = 13,    /* debit: above the revalued amount it reduces */
     CETV_NEGATIVE = 14, /* negative: the total is below zero */
     CETV_BUFFER = 15,   /* buffer: fewer than 256 bytes lent (the answer is 0) */
-    CETV_ORDER = 17     /* order: dates of lines 2 to 4 that do not strictly fall */
+    CETV_ORDER = 17     /* order: the dates of lines 2 to 4 do not strictly fall */
 };
 
 /* Values one block and forms its line at the start of out.

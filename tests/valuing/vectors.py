@@ -887,12 +887,12 @@ def ages():
     vector("kind 2, line 1 on 31 December 2199", 12, older, {"line 1 date": (2199, 12, 31)})
     vector("kind 2, line 1 of four 51 years ahead", 12, P4, {"line 1 date": (2071, 5, 10)})
     vector("kind 2, line 1 of four 50 years ahead", only("3,506.00"), P4, {"line 1 date": (2070, 5, 10)})
-    # the last of 2, 3 and 4 lines, at 17.08
+    # the last line at 17.08
     a_day_ahead = {2: "2,635.00", 3: "3,590.00", 4: "4,574.00"}
     for i in (2, 3, 4):
-        vector(f"kind 2, line {i} on the guarantee date", 11, lines_up_to(i), {f"line {i} date": (2020, 5, 10)})
-        vector(f"kind 2, line {i} before the guarantee date", 11, lines_up_to(i), {f"line {i} date": (2019, 5, 10)})
-        vector(f"kind 2, line {i} a day ahead", only(a_day_ahead[i]), lines_up_to(i), {f"line {i} date": (2020, 5, 11)})
+        vector(f"kind 2, line {i}, the last, on the guarantee date", 11, lines_up_to(i), {f"line {i} date": (2020, 5, 10)})
+        vector(f"kind 2, line {i}, the last, before the guarantee date", 11, lines_up_to(i), {f"line {i} date": (2019, 5, 10)})
+        vector(f"kind 2, line {i}, the last, a day ahead", only(a_day_ahead[i]), lines_up_to(i), {f"line {i} date": (2020, 5, 11)})
 
 
 def leap_days():
@@ -1063,8 +1063,7 @@ def several_lines():
         vector(f"survivor on line {i} alone", paid(pounds, survivor=pounds), FOUR_LINES, {f"line {i} survivor": 100_00})
     # 927 + 1,910 + 2,952 + 4,056, and 13.30 + 27.00 + 40.80 + 55.20
     amounts = {f"line {i} pension": i * 100_00 for i in LINES} | {f"line {i} survivor": i * 10_00 for i in LINES}
-    items_paid = {"pension": "9,845.00", "survivor": "136.30"}
-    vector("four lines", paid("9,981.30", **items_paid), FOUR_LINES, amounts)
+    vector("four lines", paid("9,981.30", pension="9,845.00", survivor="136.30"), FOUR_LINES, amounts)
     four = FOUR_LINES | amounts
     names = ["date"] + AMOUNTS
     for order in ((2, 4, 3), (3, 2, 4), (3, 4, 2), (4, 2, 3), (4, 3, 2)):
@@ -1199,8 +1198,8 @@ KIND_2_FAULTS = {
 }
 
 
-def order():
-    group("order")
+def order_of_tests():
+    group("order of tests")
     sets = (("kind 1", P54 | {"leaving": (2021, 6, 1)}, KIND_1_FAULTS), ("kind 2", P4, KIND_2_FAULTS))
     for label, base, faults in sets:
         numbers = list(faults)
@@ -1263,7 +1262,8 @@ def too_old_or_refer():
 
 def order_of_lines():
     group("17 order")
-    # 25, 24, 23 and 22 years ahead are 9.27, 9.55, 9.84 and 10.14; a line moved to the next row ahead has the row before
+    # 25, 24, 23 and 22 years ahead are 9.27, 9.55, 9.84 and 10.14. A line dated up to a year later than in P4 is a year further
+    # ahead, as the line above it is there.
     vector("two lines a day apart", only("1,854.00"), lines_up_to(2), {"line 2 date": (2045, 5, 9)})
     three = lines_up_to(3)
     vector("three lines, line 3 a day before line 2", only("2,837.00"), three, {"line 3 date": (2044, 5, 9)})
@@ -1288,8 +1288,8 @@ def order_of_lines():
     vector("line 4 a year before line 3, its month later", only("3,850.00"), P4, {"line 4 date": (2042, 12, 31)})
     vector("line 4 a year after line 3, its month earlier", 17, P4, {"line 4 date": (2044, 1, 1)})
     leap = P4 | {"line 2 date": (2044, 3, 1)}
-    vector("29 February after 1 March", only("3,851.00"), leap, {"line 3 date": (2044, 2, 29)})
-    vector("1 March after 29 February", 17, leap, {"line 2 date": (2044, 2, 29), "line 3 date": (2044, 3, 1)})
+    vector("line 2 on 1 March, line 3 on 29 February", only("3,851.00"), leap, {"line 3 date": (2044, 2, 29)})
+    vector("line 2 on 29 February, line 3 on 1 March", 17, leap, {"line 2 date": (2044, 2, 29), "line 3 date": (2044, 3, 1)})
     alike = P4 | {"line 3 date": (2044, 5, 10)}
     vector("lines 2 and 3 alike, line 4 on the date of line 1", 6, alike, {"line 4 date": (2045, 5, 10)})
     vector("lines 2 and 3 alike, line 1 before the 65th birthday", 6, alike, {"line 1 date": (2045, 5, 9)})
@@ -1306,7 +1306,7 @@ def main():
         return 2
     for vectors in (
         figures_at_the_edges, examples, clerks, every_row, kind, flags, reserved_amounts, codes, amounts, days, dates,
-        entitlement, ages, leap_days, debits, negative, rounding, several_lines, largest, underpin, voluntary_fund, order,
+        entitlement, ages, leap_days, debits, negative, rounding, several_lines, largest, underpin, voluntary_fund, order_of_tests,
         payment, too_old_or_refer, order_of_lines,
     ):
         vectors()

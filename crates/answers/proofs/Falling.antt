@@ -1,5 +1,5 @@
--- The lines of an accepted case of the 2015 scheme run from the latest date to the earliest, no two alike. Refusal 6 holds each
--- line against the first, and 17 looks at neighbours alone: between them they leave no two lines out.
+-- In an accepted case of the 2015 scheme every line is dated before all the lines above it. Refusal 6 compares each line with
+-- the first, and 17 each of the others with the one above it; the rest follows, since the order of dates is transitive.
 -- Assumes nothing.
 use Prim.Native.Nat.{ℕ, zero, suc, _-_, _≤_, _<_}
 use mathlib.Core.Bool.{true, false, not, _&&_, _||_}
@@ -16,7 +16,7 @@ use Rattle.calendar.specs.Moving.{movedOn}
 use Rattle.calendar.specs.declared.Date.{Date}
 use Rattle.refusals.proofs.Order.{none-given}
 use Rattle.refusals.specs.declared.Refusal.the-variants.{Kind, Dates, Order}
-use Rattle.cases.specs.Entries.{line, anyLine}
+use Rattle.cases.specs.Entries.{line}
 use Rattle.cases.specs.Kinds.{rulesOf}
 use Rattle.cases.specs.declared.Case.{Case}
 use Rattle.cases.proofs.PastCount.{few-lines}

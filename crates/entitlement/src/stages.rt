@@ -16,10 +16,10 @@ use refusals::refuse_if;
 fn dates_verdict(c: Case) -> Verdict
     ensures { λ r. ⌜ r ≡ first (entitlement.datesTests c) ⌝ }
 {
-    let impossible = dates_fault(c);
+    let contradictory = dates_fault(c);
     let out_of_order = order_fault(c);
     let order = refuse_if(out_of_order, Refusal::Order, Verdict::Passed);
-    refuse_if(impossible, Refusal::Dates, order)
+    refuse_if(contradictory, Refusal::Dates, order)
 }
 
 // The first of refusals 7 to 11 that applies, in the order of their list, or that none does.

@@ -56,7 +56,7 @@ first-past a b none = first-append a b ∙ rw (none-first a none)
 pub first-stays : (a b : List Test) {why : Refusal} → first a ≡ Refused why → first (a ++ b) ≡ Refused why
 first-stays a b e = first-append a b ∙ rw e
 
--- a test put in between changes nothing where it does not apply
+-- a test between two lists changes nothing where it does not apply
 pub first-insert : (a b : List Test) (t : Test) → t .applies ≡ false → first (a ++ (t ∷ b)) ≡ first (a ++ b)
 first-insert a b t e = first-append a (t ∷ b) ∙ rw e (sym (first-append a b))
 

@@ -29,8 +29,8 @@ pub const BREAKS: &[(Refusal, &str, Break)] = &[
     (6, "line 1 before the 65th birthday", line_1_early),
     (6, "other line not before line 1", other_line_late),
     (17, "two lines on one day", lines_alike),
-    (17, "a line later than the one before", line_rises),
-    (17, "order, not deferred either", order_not_deferred),
+    (17, "a line later than the one above", line_rises),
+    (17, "order, and not deferred", order_not_deferred),
     (7, "status", not_deferred),
     (8, "receiver", |_, random, block| block.put(at::RECEIVER, 1, random.pick(&[2, 3]))),
     (9, "service", |_, random, block| block.put(at::SERVICE, 2, random.below(3))),
@@ -259,7 +259,7 @@ fn other_line_late(model: &Model, random: &mut Random, block: &mut Block) {
     block.put_day(start + at::DATE, random.at_edges(line_1, (line_1 + 4_000).min(last_day())));
 }
 
-/// The starts of two neighbouring lines, of which the first is not line 1. A block that has none becomes another block.
+/// The starts of two neighbouring lines after line 1. A block without them is replaced by one that has them.
 fn neighbours(model: &Model, random: &mut Random, block: &mut Block) -> [usize; 2] {
     while block.kind() != 2 || block.count() < 3 {
         *block = acceptable_kind_2(model, random);
@@ -277,14 +277,13 @@ fn lines_alike(model: &Model, random: &mut Random, block: &mut Block) {
     }
 }
 
-/// A line put after the one before it, a day at least, and still before line 1, or the two change places.
+/// Dates a line after the one above it, and still before line 1, or exchanges the two dates.
 fn line_rises(model: &Model, random: &mut Random, block: &mut Block) {
     let [line, next] = neighbours(model, random, block);
     let (day, next_day) = (block.day(line + at::DATE), block.day(next + at::DATE));
     let before_line_1 = block.day(at::LINES[0] + at::DATE) - 1;
     if day < next_day {
-        // It was broken so already.
-        return;
+        return; // broken already
     }
     if day < before_line_1 && random.one_in(2) {
         block.put_day(next + at::DATE, random.at_edges(day + 1, before_line_1));

@@ -165,7 +165,7 @@ fn of_the_calendar() -> Vec<(Block, String)> {
 }
 
 /// Cases that meet refusal 10, a day before pension age and on its first day.
-fn of_the_order() -> Vec<(Block, String)> {
+fn of_the_order_of_tests() -> Vec<(Block, String)> {
     let to_refer = |block| with_gmp(block, date(2016, 4, 5));
     let due_in_2021 = |day| due(date(1950, 1, 1), date(2021, 6, 1), date(2021, 6, day));
     let text = String::from;
@@ -185,8 +185,8 @@ fn reduced_ages(line_2: Date, line_3: Date) -> Block {
     block
 }
 
-/// Example D, its reduced ages from the latest to the earliest and otherwise.
-fn of_the_lines() -> Vec<(Block, String)> {
+/// Example D with its reduced ages in order and out of order.
+fn of_the_order_of_lines() -> Vec<(Block, String)> {
     let (july_2044, july_2046) = (date(2044, 7, 3), date(2046, 7, 3));
     let refused = |refusal: &str| format!("1 5 refused {refusal}");
     let mut active = reduced_ages(july_2044, july_2046);
@@ -224,7 +224,9 @@ pub fn try_figures(model: &Model) -> Result<usize, String> {
         }
     }
     figures.push((Block::zeros(), "3 0 refused 3 kind".into()));
-    figures.extend(of_the_sum().into_iter().chain(of_the_calendar()).chain(of_the_order()).chain(of_the_lines()));
+    figures.extend(
+        of_the_sum().into_iter().chain(of_the_calendar()).chain(of_the_order_of_tests()).chain(of_the_order_of_lines()),
+    );
     for (block, line) in &figures {
         let block = sealed(block.clone());
         let place: u32 = line.split(' ').next().unwrap().parse().unwrap();

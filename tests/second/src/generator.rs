@@ -207,9 +207,12 @@ fn put_survivor_at_edge(model: &Model, random: &mut Random, block: &mut Block) {
     for field in [at::SURVIVOR, at::DEPENDANT, at::DEBIT, at::LUMP_DEBIT] {
         block.put(line + field, 8, 0);
     }
-    let Some((factors, total)) = first_factors_and_total(model, block) else {
-        *block = before;
-        return;
+    let (factors, total) = match first_factors_and_total(model, block) {
+        Some(found) => found,
+        None => {
+            *block = before;
+            return;
+        }
     };
     let target = random.pick(&[0, 49, 50, 51, 99]);
     let found = (0..100).find(|s| {

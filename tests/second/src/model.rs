@@ -480,11 +480,11 @@ fn dates_broken(case: &Case) -> bool {
                 || case.used()[1..].iter().any(|line| day_number(line.date) >= first_line)))
 }
 
-/// Of lines 2 to 4 of kind 2, as far as the count goes, a later one is not dated before an earlier one.
+/// Of lines 2 to 4 of kind 2, as far as the count goes, one is not dated before all those above it.
 pub fn order_broken(case: &Case) -> bool {
     let lines = if case.kind == 2 { &case.used()[1..] } else { &[] };
-    let not_before = |line: &Line, earlier: &Line| day_number(line.date) >= day_number(earlier.date);
-    lines.iter().enumerate().any(|(place, line)| lines[..place].iter().any(|earlier| not_before(line, earlier)))
+    let not_before = |line: &Line, above: &Line| day_number(line.date) >= day_number(above.date);
+    lines.iter().enumerate().any(|(place, line)| lines[..place].iter().any(|above| not_before(line, above)))
 }
 
 pub fn gmp_to_refer(case: &Case) -> bool {

@@ -1,4 +1,5 @@
-//! Properties of the library as it is built: demand 3 on pairs of cases, the lent buffer, the place and the lengths.
+//! Properties of the library as it is built: demand 3 on pairs of cases, the lines of a case in every order, the lent buffer,
+//! the place and the lengths.
 
 use crate::generator::*;
 use crate::library::*;
@@ -101,7 +102,10 @@ fn draw_entry(model: &Model, random: &mut Random, block: &Block, fields: &[usize
 fn draw_pair(model: &Model, random: &mut Random, fields: &[usize]) -> (Block, Block, Entry, i128) {
     loop {
         let mut smaller = acceptable(model, random);
-        let Some(entry) = draw_entry(model, random, &smaller, fields) else { continue };
+        let entry = match draw_entry(model, random, &smaller, fields) {
+            Some(entry) => entry,
+            None => continue,
+        };
         let extra = match random.below(4) {
             0 => 1,
             1 => random.between(1, entry.most.min(200) as i64),
@@ -139,8 +143,9 @@ fn try_pair(model: &Model, random: &mut Random, lent: &mut Lent, fields: &[usize
         println!("{}{}", lines[0], lines[1]);
         Err(format!("{what}: field {} of the line at {}, {extra} more", entry.field, entry.start))
     };
-    let (Some(before), Some(after)) = (parse(&lines[0]), parse(&lines[1])) else {
-        return failed("one of a pair of accepted cases is not paid");
+    let (before, after) = match (parse(&lines[0]), parse(&lines[1])) {
+        (Some(before), Some(after)) => (before, after),
+        _ => return failed("one of a pair of accepted cases is not paid"),
     };
     let gross = [&smaller, &larger].map(|block| model.value(&case_of(&block.0)).unwrap().gross);
     if [before.gross(), after.gross()] != gross {
@@ -162,16 +167,19 @@ fn try_pair(model: &Model, random: &mut Random, lent: &mut Lent, fields: &[usize
     Ok(())
 }
 
-/// Every order of so many things, the one in which they stand first.
+/// Every order of so many things; the first is the one in which they stand.
 fn orders(count: usize) -> Vec<Vec<usize>> {
-    let Some(last) = count.checked_sub(1) else { return vec![vec![]] };
+    if count == 0 {
+        return vec![vec![]];
+    }
+    let last = count - 1;
     let with_last_at = |place: usize| {
         orders(last).into_iter().map(move |mut order| {
-            order.insert(last - place, last);
+            order.insert(place, last);
             order
         })
     };
-    (0..count).flat_map(with_last_at).collect()
+    (0..count).rev().flat_map(with_last_at).collect()
 }
 
 /// An accepted case of kind 2 with more than one line, each of which can stand in any place and can be a case's only line.
@@ -185,7 +193,7 @@ fn draw_lines(model: &Model, random: &mut Random) -> Block {
         let most = block.revalued_pension(line_1).min(LARGEST_AMOUNT as i128) as u64;
         block.put(line_1 + at::DEBIT, 8, block.get(line_1 + at::DEBIT, 8).min(most));
         let days = at::LINES[..block.count()].iter().map(|start| block.day(start + at::DATE));
-        if block.count() > 1 && days.min().is_some_and(|day| latest_birth(day) >= first_day()) {
+        if block.count() > 1 && days.min().map_or(false, |day| latest_birth(day) >= first_day()) {
             block.seal();
             return block;
         }
@@ -216,30 +224,31 @@ fn with_line_alone(block: &Block, place: usize) -> Block {
     alone
 }
 
-/// The lines of an accepted case in every order. In any other than its own it is refused: with 6 where line 1 is not first, as the
-/// others are then not all before the first, else with 17. The items are the same in every order, and are those of its lines alone.
+/// The lines of an accepted case in every order. In its own the case is paid, and its items are the sums of those that the library
+/// gives for each line alone. In any other it is refused: with 6 where line 1 is not first, since it is then not before the first,
+/// else with 17. The second calculator's items, summed line by line, are the same in every order.
 fn try_orders(model: &Model, random: &mut Random, lent: &mut Lent) -> Result<u64, String> {
     let block = draw_lines(model, random);
-    let failed = |what: &str, order: &[usize]| Err(format!("{what}: lines {order:?} of {}", hex(&block.0)));
-    let Some(whole) = parse(&line_of(lent, &block)) else {
-        return failed("an accepted case is not paid", &[]);
-    };
+    let failed = |what: &str, order: &[usize]| format!("{what}: lines {order:?} of {}", hex(&block.0));
+    let whole = parse(&line_of(lent, &block)).ok_or_else(|| failed("an accepted case is not paid", &[]))?;
+    if !whole.follows() {
+        return Err(failed("steps 5 and 6 do not give the payment", &[]));
+    }
     let orders = orders(block.count());
     let mut summed = [0; 4];
     for place in 0..block.count() {
-        let Some(line) = parse(&line_of(lent, &with_line_alone(&block, place))) else {
-            return failed("a line alone is not paid", &[place]);
-        };
+        let alone = line_of(lent, &with_line_alone(&block, place));
+        let line = parse(&alone).ok_or_else(|| failed("a line alone is not paid", &[place]))?;
         summed = std::array::from_fn(|item| summed[item] + line.items[item]);
     }
     if summed != whole.items {
-        return failed("the items are not those of the lines alone", &[]);
+        return Err(failed("the items are not those of the lines alone", &[]));
     }
     for order in &orders {
         let moved = in_order(&block, order);
         let items = model.items(&case_of(&moved.0)).unwrap();
         if [items.pension, items.lump, items.survivor, items.deduct] != whole.items {
-            return failed("the items are not the same in another order", order);
+            return Err(failed("the items are not the same in another order", order));
         }
         if *order == orders[0] {
             continue;
@@ -247,7 +256,7 @@ fn try_orders(model: &Model, random: &mut Random, lent: &mut Lent) -> Result<u64
         let refusal = if order[0] == 0 { 17 } else { 6 };
         let number = block.get(at::NUMBER, 4);
         if line_of(lent, &moved) != form_line(1, number, &Err(refusal)) {
-            return failed("another order is not refused so", order);
+            return Err(failed("another order is not refused with 6 or 17, as it should be", order));
         }
     }
     Ok(orders.len() as u64 - 1)

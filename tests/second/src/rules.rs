@@ -62,7 +62,7 @@ fn ahead(case: &Case, month: i64, day: i64) -> bool {
 
 /// Whether the case is paid, and its payment is such a one.
 fn holds(answer: &Answer, such: fn(&Payment) -> bool) -> bool {
-    answer.as_ref().is_ok_and(such)
+    answer.as_ref().map_or(false, such)
 }
 
 fn flagged(case: &Case) -> bool {
@@ -74,19 +74,19 @@ fn underpin_tops(payment: &Payment, more: i128) -> bool {
     payment.underpin > payment.gross + more
 }
 
-/// The days from the line after one to that line, counted from 0, where the count covers both.
+/// By how many days the line at this place, counted from 0, is dated after the next; none where the count does not cover both.
 fn days_apart(case: &Case, place: usize) -> Option<i64> {
     let line = case.used().get(place)?;
     Some(day_number(line.date) - day_number(case.used().get(place + 1)?.date))
 }
 
 fn rises(case: &Case, place: usize) -> bool {
-    days_apart(case, place).is_some_and(|days| days < 0)
+    days_apart(case, place).map_or(false, |days| days < 0)
 }
 
-/// Whether the line after one is dated before it, or the count does not cover both.
+/// Whether the next line is dated before it, or the count does not cover both.
 fn falls(case: &Case, place: usize) -> bool {
-    days_apart(case, place).is_none_or(|days| days > 0)
+    days_apart(case, place).map_or(true, |days| days > 0)
 }
 
 /// Whether the case meets refusal 10 and is given this refusal.
@@ -102,5 +102,5 @@ fn at_60th_birthday(case: &Case, days: i64) -> bool {
 /// Whether the guarantee date lies so many days after the earliest date of a line.
 fn at_first_due(case: &Case, days: i64) -> bool {
     let due = case.used().iter().map(|line| day_number(line.date)).min();
-    case.kind == 2 && due.is_some_and(|due| day_number(case.guarantee) == due + days)
+    case.kind == 2 && due.map_or(false, |due| day_number(case.guarantee) == due + days)
 }
