@@ -5,29 +5,47 @@ ghost use Rattle.refusals.specs.Refusals.{numberOf, nameOf, Labelled};
 use crate::Refusal;
 use buffers::put;
 
-// A refusal's number, its name in sixteen bytes with spaces after it, and the name's length.
+// The names in sixteen bytes, spaces after them. They are constants because a byte string in an arm makes every arm dearer to check.
+const LENGTH: [u8; 16] = *b"length          ";
+const CHECK: [u8; 16] = *b"check           ";
+const KIND: [u8; 16] = *b"kind            ";
+const RESERVED: [u8; 16] = *b"reserved        ";
+const RANGE: [u8; 16] = *b"range           ";
+const DATES: [u8; 16] = *b"dates           ";
+const STATUS: [u8; 16] = *b"status          ";
+const RECEIVER: [u8; 16] = *b"receiver        ";
+const SERVICE: [u8; 16] = *b"service         ";
+const REFER: [u8; 16] = *b"refer           ";
+const AGE: [u8; 16] = *b"age             ";
+const FACTOR: [u8; 16] = *b"factor          ";
+const DEBIT: [u8; 16] = *b"debit           ";
+const NEGATIVE: [u8; 16] = *b"negative        ";
+const BUFFER: [u8; 16] = *b"buffer          ";
+const ORDER: [u8; 16] = *b"order           ";
+
+// A refusal's number, its name in sixteen bytes, and the name's length.
 struct Label(u32, [u8; 16], usize);
 
 fn label_of(r: Refusal) -> Label
     ensures { λ l. ⌜ Labelled r (l .0) (l .1) (l .2) ⌝ }
 {
     match r {
-        Refusal::Length => Label(1, *b"length          ", 6),
-        Refusal::Check => Label(2, *b"check           ", 5),
-        Refusal::Kind => Label(3, *b"kind            ", 4),
-        Refusal::Reserved => Label(4, *b"reserved        ", 8),
-        Refusal::Range => Label(5, *b"range           ", 5),
-        Refusal::Dates => Label(6, *b"dates           ", 5),
-        Refusal::Status => Label(7, *b"status          ", 6),
-        Refusal::Receiver => Label(8, *b"receiver        ", 8),
-        Refusal::Service => Label(9, *b"service         ", 7),
-        Refusal::Refer => Label(10, *b"refer           ", 5),
-        Refusal::Age => Label(11, *b"age             ", 3),
-        Refusal::Factor => Label(12, *b"factor          ", 6),
-        Refusal::Debit => Label(13, *b"debit           ", 5),
-        Refusal::Negative => Label(14, *b"negative        ", 8),
-        Refusal::Buffer => Label(15, *b"buffer          ", 6),
-        Refusal::Order => Label(17, *b"order           ", 5),
+        Refusal::Length => Label(1, LENGTH, 6),
+        Refusal::Check => Label(2, CHECK, 5),
+        Refusal::Kind => Label(3, KIND, 4),
+        Refusal::Reserved => Label(4, RESERVED, 8),
+        Refusal::Range => Label(5, RANGE, 5),
+        Refusal::Dates => Label(6, DATES, 5),
+        Refusal::Status => Label(7, STATUS, 6),
+        Refusal::Receiver => Label(8, RECEIVER, 8),
+        Refusal::Service => Label(9, SERVICE, 7),
+        Refusal::Refer => Label(10, REFER, 5),
+        Refusal::Age => Label(11, AGE, 3),
+        Refusal::Factor => Label(12, FACTOR, 6),
+        Refusal::Debit => Label(13, DEBIT, 5),
+        Refusal::Negative => Label(14, NEGATIVE, 8),
+        Refusal::Buffer => Label(15, BUFFER, 6),
+        Refusal::Order => Label(17, ORDER, 5),
     }
 }
 
