@@ -7,20 +7,35 @@ use buffers::put;
 
 // The names in sixteen bytes, spaces after them. They are constants because a byte string in an arm makes every arm dearer to check.
 const LENGTH: [u8; 16] = *b"length          ";
+
 const CHECK: [u8; 16] = *b"check           ";
+
 const KIND: [u8; 16] = *b"kind            ";
+
 const RESERVED: [u8; 16] = *b"reserved        ";
+
 const RANGE: [u8; 16] = *b"range           ";
+
 const DATES: [u8; 16] = *b"dates           ";
+
 const STATUS: [u8; 16] = *b"status          ";
+
 const RECEIVER: [u8; 16] = *b"receiver        ";
+
 const SERVICE: [u8; 16] = *b"service         ";
+
 const REFER: [u8; 16] = *b"refer           ";
+
 const AGE: [u8; 16] = *b"age             ";
+
 const FACTOR: [u8; 16] = *b"factor          ";
+
 const DEBIT: [u8; 16] = *b"debit           ";
+
 const NEGATIVE: [u8; 16] = *b"negative        ";
+
 const BUFFER: [u8; 16] = *b"buffer          ";
+
 const ORDER: [u8; 16] = *b"order           ";
 
 // A refusal's number, its name in sixteen bytes, and the name's length.
