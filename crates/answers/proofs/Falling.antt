@@ -28,24 +28,26 @@ before-transitive d e f p q =
     lt-ltb (rank d) (rank f) (omega (arith, ltb-true (rank d) (rank e) p, ltb-true (rank e) (rank f) q))
 
 module _ (c : Case) (dated : rulesOf (c .kind) .dated ≡ true) where
+  -- what either test tells of a line at place m or later, within the count
+  within : (m i : ℕ) (d e : Date) → m ≤ i → i < c .count → (leb m i && ltb i (c .count) && not (before d e)) ≡ false → before d e ≡ true
+  within m i d e f n none =
+      let both : (leb m i && ltb i (c .count)) ≡ true = rw (le-leb m i f, lt-ltb i (c .count) n) in
+      not-false (before d e) (and-right-false (leb m i && ltb i (c .count)) (not (before d e)) both none)
+
   -- by 6
   before-first : datesFault c ≡ false → (j : ℕ) → 1 ≤ j → j < c .count → j < 4 → before (line c j .date) (line c 0 .date) ≡ true
   before-first e j f n b =
       let early = before (line c 0 .date) (movedOn 65 (c .birth)) in
       let left = not (before (c .birth) (c .leaving)) || before (c .guarantee) (c .leaving) in
       let lines = and-right-false (rulesOf (c .kind) .dated) _ dated (or-false left _ e .1) in
-      let others = any-false 4 (λ i. misplaced c i (line c i)) (or-false early _ lines .1) j b in
-      let within : (leb 1 j && ltb j (c .count)) ≡ true = rw (le-leb 1 j f, lt-ltb j (c .count) n) in
-      not-false _ (and-right-false (leb 1 j && ltb j (c .count)) _ within others)
+      within 1 j (line c j .date) (line c 0 .date) f n (any-false 4 (λ i. misplaced c i (line c i)) (or-false early _ lines .1) j b)
 
   module _ (ordered : orderFault c ≡ false) where
     -- by 17, two neighbours
     before-previous : (i : ℕ) → 2 ≤ i → i < c .count → i < 4 → before (line c i .date) (line c (i - 1) .date) ≡ true
     before-previous i f n b =
         let lines = and-right-false (rulesOf (c .kind) .dated) _ dated ordered in
-        let e = any-false 4 (λ j. outOfOrder c j (line c j)) lines i b in
-        let within : (leb 2 i && ltb i (c .count)) ≡ true = rw (le-leb 2 i f, lt-ltb i (c .count) n) in
-        not-false _ (and-right-false (leb 2 i && ltb i (c .count)) _ within e)
+        within 2 i (line c i .date) (line c (i - 1) .date) f n (any-false 4 (λ j. outOfOrder c j (line c j)) lines i b)
 
     -- and so any two after the first
     falling : (i j : ℕ) → 1 ≤ i → i < j → j < c .count → j < 4 → before (line c j .date) (line c i .date) ≡ true
