@@ -596,6 +596,32 @@ def stated_checks():
         vector_of_bytes(f"{label}, check {stated + 1}", 2, with_check(block, stated + 1))
 
 
+def checks_by_words():
+    """The check may be taken a 32-bit word at a time, in rows of eight words: the edges of words and of rows, and sums
+    that such a check gets when it goes wrong. The blocks are of no kind, and with the right check refused 3."""
+    group("2 check, by words")
+    for position in (3, 4, 31, 32, 447, 448, 479, 480, 503, 504):
+        block = with_bytes(bytes(512), {position: 255})
+        stated = 255 * (position + 1)
+        vector_of_bytes(f"byte {position} is 255, check {stated}", 3, with_check(block, stated))
+        vector_of_bytes(f"byte {position} is 255, check {stated - 255}", 2, with_check(block, stated - 255))
+    block = bytes((37 * i + 11) % 256 for i in range(508)) + bytes(4)
+    right = check_of(block)
+    added = [sum((4 * k + i + 1) * block[4 * k + i] for i in range(4)) for k in range(127)]
+    own_word = sum((508 + i + 1) * byte for i, byte in enumerate(right.to_bytes(4, "little")))
+    sums = {
+        "the bytes of each word in the other order": sum((4 * (i // 4) + 4 - i % 4) * block[i] for i in range(508)),
+        "the last word left out": right - added[126],
+        "the words after the last whole row left out": right - sum(added[120:]),
+        "the word of the check taken in": right + own_word,
+        "each row counted once too often": right + 32 * sum(block[:508]),
+        "the last row counted once too often": right + 32 * sum(block[448:480]),
+    }
+    vector_of_bytes("bytes of every size, right check", 3, with_check(block, right))
+    for label, wrong in sums.items():
+        vector_of_bytes(label, 2, with_check(block, wrong))
+
+
 def check_kept():
     """The check agrees although it was made for other bytes, or by chance."""
     group("check right for other reasons")
@@ -970,6 +996,7 @@ def all_vectors():
     check()
     other_sums()
     stated_checks()
+    checks_by_words()
     check_kept()
     kind()
     unnamed_bytes()

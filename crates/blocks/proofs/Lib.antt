@@ -1,5 +1,6 @@
 pub mod Places
 pub mod Groups
 pub mod Order
-pub mod Columns
+pub mod Sums
+pub mod Words
 pub mod Files

@@ -1,4 +1,4 @@
 pub mod Block
 pub mod Reading
-pub mod Columns
+pub mod Words
 pub mod Files

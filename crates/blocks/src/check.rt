@@ -1,113 +1,143 @@
-// The check of a block. Its first 480 bytes are taken as 15 rows of 32, so that the sums of a column fit in 16 bits and many
-// columns are summed at a time; the other 28 are summed one by one.
+// The check of a block, a 32-bit word at a time. Words that stand a stride apart are added from the last to the first, and so are
+// the sums reached on the way: that counts each word as often as its row says, and multiplies none. A sum of words is one of their
+// bytes too, the even and the odd ones on top of each other, and these are told apart at the end.
 ghost use mathlib.Core.Path.{_≡_};
-ghost use Prim.Native.Nat.{_+_, _*_, _<_, _≤_};
+ghost use Prim.Native.Nat.{_+_, _*_, _/_, _%_, _-_, _≤_};
 ghost use lib.ListN.{length};
+ghost use Rattle.numbers.specs.Below.{sumBelow};
+ghost use Rattle.buffers.specs.Bytes.{numberAt};
 ghost use Rattle.blocks.specs.Block as block;
-ghost use Rattle.blocks.specs.Columns.{ColumnBelow, ColumnsBelow, columnsSum, restSum};
+ghost use Rattle.blocks.specs.Words.{wordSum, oddBytes, wordAt, oddAt, SumsOf, prepend, weighed};
+use std::num::wrapping_add_u32;
+use std::num::wrapping_sub_u32;
 
-// The sum of a column's bytes, and the sum of (row, from 0) times the byte.
-struct Column {
-    pub plain: u16,
-    pub weighted: u16,
+// Of some numbers, the sum, and the sum of (place, from 0) times the number; modulo 2^32.
+struct Sums {
+    pub plain: u32,
+    pub weighted: u32,
 }
 
-// The same of each column.
-struct Columns {
-    pub plain: [u16; 32],
-    pub weighted: [u16; 32],
+// The sums of some words, and those of their odd bytes.
+struct WordSums {
+    pub words: Sums,
+    pub odd: Sums,
 }
 
-fn widened(x: u8) -> u16
+fn widened(x: u8) -> u32
     ensures { λ r. ⌜ (r ≡ x) × (r ≤ 255) ⌝ }
 {
-    x as u16
+    x as u32
 }
 
-fn sum_column(b: &[u8], j: usize) -> Column
-    requires { ⌜ (j < 32) × (480 ≤ length (now b)) ⌝ }
-    ensures { λ r. ⌜ ColumnBelow (now (b .entry)) j 15 (r .plain) (r .weighted) ⌝ }
+// The word at an index. There is no test of the length, with which the loop over words would take twice the time.
+fn word_at(b: &[u8], at: usize) -> u32
+    requires { ⌜ at + 4 ≤ length (now b) ⌝ }
+    ensures { λ r. ⌜ r ≡ numberAt 4 (now (b .entry)) at ⌝ }
 {
-    let mut plain: u16 = 0;
-    let mut weighted: u16 = 0;
-    let mut row: u16 = 0;
-    while row < 15 {
-        let byte = widened(b[32 * (row as usize) + j]);
-        plain += byte;
-        weighted += row * byte;
-        row += 1;
+    widened(b[at])
+        + 256 * widened(b[at + 1])
+        + 65536 * widened(b[at + 2])
+        + 16777216 * widened(b[at + 3])
+}
+
+// The second and the fourth byte of a word, in the halves of a number.
+fn odd_bytes(w: u32) -> u32
+    ensures { λ r. ⌜ r ≡ oddBytes w ⌝ }
+{
+    w / 256 % 256 + 65536 * (w / 16777216)
+}
+
+// The sums with one more number before the others, which move up a place.
+fn prepended(x: u32, s: Sums) -> Sums
+    ensures { λ r. ⌜ r ≡ prepend x s ⌝ }
+{
+    Sums {
+        plain: wrapping_add_u32(s.plain, x),
+        weighted: wrapping_add_u32(s.weighted, s.plain),
     }
-    Column { plain, weighted }
 }
 
-fn sum_columns(b: &[u8]) -> Columns
-    requires { ⌜ 480 ≤ length (now b) ⌝ }
-    ensures { λ r. ⌜ ColumnsBelow (now (b .entry)) 32 (r .plain) (r .weighted) ⌝ }
+fn add_words(b: &[u8], start: usize, stride: usize, n: usize) -> WordSums
+    requires { ⌜ start + stride * (n - 1) + 4 ≤ length (now b) ⌝ }
+    ensures { λ r. ⌜ SumsOf n (λ k. wordAt (now (b .entry)) (start + stride * k)) (r .words) ⌝ }
+    ensures { λ r. ⌜ SumsOf n (λ k. oddAt (now (b .entry)) (start + stride * k)) (r .odd) ⌝ }
 {
-    let mut plain = [0u16; 32];
-    let mut weighted = [0u16; 32];
-    let mut j: usize = 0;
-    while j < 32 {
-        let c = sum_column(b, j);
-        plain[j] = c.plain;
-        weighted[j] = c.weighted;
-        j += 1;
+    let mut words = Sums {
+        plain: 0,
+        weighted: 0,
+    };
+    let mut odd = Sums {
+        plain: 0,
+        weighted: 0,
+    };
+    let mut i = n;
+    while 0 < i {
+        i -= 1;
+        let w = word_at(b, start + stride * i);
+        words = prepended(w, words);
+        odd = prepended(odd_bytes(w), odd);
     }
-    Columns { plain, weighted }
+    WordSums { words, odd }
 }
 
-// What column j adds to the check.
-fn column_term(j: u32, plain: u16, weighted: u16) -> u32
-    requires { ⌜ j < 32 ⌝ }
-    ensures { λ r. ⌜ (r ≡ 32 * weighted + (j + 1) * plain) × (r ≤ 4194304) ⌝ }
+// A sum of words without 255 times that of their odd bytes: what is left counts every byte once, two in each half.
+fn pairs_of(words: u32, odd: u32) -> u32
+    ensures { λ r. ⌜ (r + 255 * odd) % 4294967296 ≡ words ⌝ }
 {
-    32 * (weighted as u32) + (j + 1) * (plain as u32)
+    wrapping_add_u32(wrapping_sub_u32(words, odd % 16777216 * 256), odd)
 }
 
-fn add_columns(plain: &[u16; 32], weighted: &[u16; 32]) -> u32
-    ensures { λ r. ⌜ (r ≡ columnsSum 32 (now (plain .entry)) (now (weighted .entry))) × (r ≤ 134217728) ⌝ }
+fn halves(x: u32) -> u32
+    ensures { λ r. ⌜ (r ≡ x % 65536 + x / 65536) × (r ≤ 131070) ⌝ }
 {
-    let mut sum: u32 = 0;
-    let mut j: u32 = 0;
-    while j < 32 {
-        let k = j as usize;
-        sum += column_term(j, plain[k], weighted[k]);
-        j += 1;
-    }
-    sum
+    x % 65536 + x / 65536
 }
 
-// What the byte at a position of weight w adds to the check.
-fn byte_term(w: u32, x: u8) -> u32
-    requires { ⌜ w ≤ 508 ⌝ }
-    ensures { λ r. ⌜ (r ≡ w * x) × (r ≤ 129540) ⌝ }
+fn product(weight: u32, sum: u32) -> u32
+    requires { ⌜ (weight ≤ 512) × (sum ≤ 131070) ⌝ }
+    ensures { λ r. ⌜ (r ≡ weight * sum) × (r ≤ 67107840) ⌝ }
 {
-    w * (widened(x) as u32)
+    weight * sum
 }
 
-// The sum of (position + 1) times the byte over the 28 bytes after the rows.
-fn sum_rest(b: &[u8]) -> u32
-    requires { ⌜ 508 ≤ length (now b) ⌝ }
-    ensures { λ r. ⌜ (r ≡ restSum 28 (now (b .entry))) × (r ≤ 3627120) ⌝ }
+// What words a stride apart add to the check, from their sums. The sum of their bytes is below 32768: where the compiler sees that,
+// its product takes one instruction for four columns.
+fn weigh(start: u32, stride: u32, pairs: u32, weighted: u32, odd: u32) -> u32
+    requires { ⌜ (start ≤ 480) × (stride ≤ 32) ⌝ }
+    ensures { λ r. ⌜ (r ≡ weighed start stride pairs weighted odd) × (r ≤ 140000000) ⌝ }
 {
-    let mut sum: u32 = 0;
-    let mut i: u32 = 0;
-    while i < 28 {
-        sum += byte_term(480 + i + 1, b[480 + i as usize]);
-        i += 1;
-    }
-    sum
+    product(stride, halves(weighted))
+        + product(start + 1, halves(pairs) % 32768)
+        + 2 * (pairs / 65536)
+        + halves(odd)
 }
 
-// The sum of (position + 1) times the byte over the first 508 bytes.
+// What n words add to the check that stand a stride apart from a start on.
+fn words_sum(b: &[u8], start: usize, stride: usize, n: usize) -> u32
+    requires { ⌜ (start + stride * (n - 1) + 4 ≤ length (now b)) × (start ≤ 480) × (stride ≤ 32) × (n ≤ 15) ⌝ }
+    ensures { λ r. ⌜ (r ≡ sumBelow n (λ k. wordSum (now (b .entry)) (start + stride * k))) × (r ≤ 140000000) ⌝ }
+{
+    let sums = add_words(b, start, stride, n);
+    let words = sums.words;
+    let odd = sums.odd;
+    let pairs = pairs_of(words.plain, odd.plain);
+    let weighted = pairs_of(words.weighted, odd.weighted);
+    weigh(start as u32, stride as u32, pairs, weighted, odd.plain)
+}
+
+// The sum of (position + 1) times the byte over the first 508 bytes: 15 rows of eight words, column by column, and the seven words
+// after them.
 pub(crate) fn checksum(b: &[u8]) -> u32
     requires { ⌜ 508 ≤ length (now b) ⌝ }
     ensures { λ r. ⌜ r ≡ block.checksum (now (b .entry)) ⌝ }
 {
-    let all = sum_columns(b);
-    let plain = all.plain;
-    let weighted = all.weighted;
-    add_columns(&plain, &weighted) + sum_rest(b)
+    let mut sum: u32 = 0;
+    let mut j: usize = 0;
+    while j < 8 {
+        sum += words_sum(b, 4 * j, 32, 15);
+        j += 1;
+    }
+    sum + words_sum(b, 480, 4, 7)
 }
 
 // The checksum that a block of these bytes must hold; 0 where there are fewer than 508.

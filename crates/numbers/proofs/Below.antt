@@ -1,7 +1,7 @@
 -- The laws of sums and of any, over the numbers below n.
 -- Assumes nothing.
 use Prim.Native.Nat.{ℕ, zero, suc, _+_, _*_, _≤_, _<_}
-use mathlib.Core.Path.{_≡_, refl}
+use mathlib.Core.Path.{_≡_, refl, _∙_}
 use mathlib.Core.Bool.{Bool, false, _||_}
 use native.Mathlib.Nat.{add-zero, add-suc, mul-add, zero-mul, suc-mul, mul-comm}
 use native.Mathlib.Numerals.{add-one}
@@ -79,17 +79,34 @@ unfolding sumBelow
 sum-times zero k g = omega arith
 sum-times (suc n) k g = rw mul-add (omega (arith, sum-times n k g))
 
--- a sum in m rows of n terms, taken by columns
+-- fewer terms make a sum no larger
+pub sum-fewer : (n d : ℕ) (g : ℕ → ℕ) → sumBelow n g ≤ sumBelow (n + d) g
+sum-fewer n d g = omega (arith, sum-split n d g)
+
+-- the first term and the others
+pub sum-first : (n : ℕ) (g : ℕ → ℕ) → sumBelow (suc n) g ≡ g 0 + sumBelow n (λ j. g (suc j))
+unfolding sumBelow
+sum-first zero g = omega arith
+sum-first (suc n) g = omega (arith, sum-first n g)
+
+-- a sum in m rows of n terms, taken by rows and by columns
+pub sum-rows : (m n : ℕ) (g : ℕ → ℕ) → sumBelow (m * n) g ≡ sumBelow m (λ k. sumBelow n (λ j. g (n * k + j)))
+unfolding sumBelow
+sum-rows zero n g = rw zero-mul
+sum-rows (suc m) n g =
+    let split = sum-split (m * n) n g in
+    let last : sumBelow n (λ j. g (m * n + j)) ≡ sumBelow n (λ j. g (n * m + j)) = rw (mul-comm m n) in
+    rw suc-mul (omega (arith, split, last, sum-rows m n g))
+
 pub sum-zero : (n : ℕ) → sumBelow n (λ j. 0) ≡ 0
 unfolding sumBelow
 sum-zero zero = refl
 sum-zero (suc n) = omega (arith, sum-zero n)
 
-pub sum-columns : (m n : ℕ) (g : ℕ → ℕ) → sumBelow (m * n) g ≡ sumBelow n (λ j. sumBelow m (λ k. g (n * k + j)))
+sum-swap : (m n : ℕ) (g : ℕ → ℕ → ℕ) → sumBelow m (λ k. sumBelow n (g k)) ≡ sumBelow n (λ j. sumBelow m (λ k. g k j))
 unfolding sumBelow
-sum-columns zero n g = rw (zero-mul, sum-zero n)
-sum-columns (suc m) n g =
-    let split = sum-split (m * n) n g in
-    let parts = sum-plus n (λ j. sumBelow m (λ k. g (n * k + j))) (λ j. g (n * m + j)) in
-    let last : sumBelow n (λ j. g (m * n + j)) ≡ sumBelow n (λ j. g (n * m + j)) = rw (mul-comm m n) in
-    rw suc-mul (omega (arith, split, parts, last, sum-columns m n g))
+sum-swap zero n g = rw (sum-zero n)
+sum-swap (suc m) n g = omega (arith, sum-swap m n g, sum-plus n (λ j. sumBelow m (λ k. g k j)) (g m))
+
+pub sum-columns : (m n : ℕ) (g : ℕ → ℕ) → sumBelow (m * n) g ≡ sumBelow n (λ j. sumBelow m (λ k. g (n * k + j)))
+sum-columns m n g = sum-rows m n g ∙ sum-swap m n (λ k j. g (n * k + j))

@@ -1,4 +1,6 @@
 // The stages of the way of a block, one function to a stage, for the benchmark to time: each does the work of those before it.
+mod by_bytes;
+
 ghost use mathlib.Core.Path.{_≡_};
 ghost use Rattle.blocks.specs.Block.{checksumOrZero};
 ghost use Rattle.blocks.specs.Reading.{readingOf};
@@ -7,6 +9,7 @@ ghost use Rattle.answers.specs.Answer.{paid};
 use answers::Outcome;
 use blocks::block_checksum;
 use blocks::read_block;
+pub use by_bytes::stages_check_by_bytes;
 use valuing::value_block;
 
 // The checksum of a block.
