@@ -6,7 +6,7 @@ use mathlib.Core.Path.{_≡_, refl, sym, ap, _∙_}
 use native.Mathlib.Nat.{add-zero, zero-add}
 use native.Mathlib.Omega.{arith}
 use lib.ListN.{length, take, drop, set, length-set, length-append, length-take, length-drop, take-append-drop}
-use lib.Seq.{paste, take-length, take-at, drop-at, drop-drop, drop-append-le, drop-append-add, take-set-le, set-split, length-take-le}
+use lib.Seq.{paste, take-length, take-take, take-append-le, take-at, drop-at, drop-drop, drop-append-le, drop-append-add, take-set-le, set-split, length-take-le}
 use borrow.Author.Tests.{le-leb, lt-leb}
 use Rattle.buffers.specs.Text.{putAt, putEnd, Written, WrittenIfRoom}
 
@@ -68,6 +68,21 @@ put-put b p t u h =
     ap (λ (k : ℕ). drop (k + length u) (front ++ rest)) (sym lf) ∙ drop-append-add front rest (length u) ∙ drop-drop (length u) n b ∙ ap (λ (k : ℕ). drop k b) s in
     rw (e, put-over (front ++ rest) n u (omega arith), put-over b p (t ++ u) (omega arith), take-at front rest n lf, d)
     (ap (λ (l : List ℕ). l ++ drop (p + length (t ++ u)) b) (append-assoc (take p b) t u))
+
+-- and the same where the second is written first
+pub put-back : (b : List ℕ) (p : ℕ) (t u : List ℕ) → p + length t + length u ≤ length b
+    → putAt (putAt b (p + length t) u) p t ≡ putAt b p (t ++ u)
+put-back b p t u h =
+    let n : ℕ = p + length t in
+    let front : List ℕ = take n b in
+    let rest : List ℕ = drop (n + length u) b in
+    let lf : length front ≡ n = length-take-le n b (omega arith) in
+    let e : putAt b n u ≡ front ++ (u ++ rest) = put-over b n u (omega arith) ∙ append-assoc front u rest in
+    let le : length (front ++ (u ++ rest)) ≡ length b = sym (ap length e) ∙ length-put b n u (omega arith) in
+    let f : take p (front ++ (u ++ rest)) ≡ take p b = take-append-le p front (u ++ rest) (omega arith) ∙ take-take p n b (omega arith) in
+    let s : p + length (t ++ u) ≡ n + length u = omega (arith, length-append t u) in
+    rw (e, put-over (front ++ (u ++ rest)) p t (omega arith), put-over b p (t ++ u) (omega arith), f, drop-at front (u ++ rest) n lf, s)
+    (simp append-assoc)
 
 -- a text and then another from its end on are the two in a row
 pub then-written : {b m a : List ℕ} {p e e′ : ℕ} {t u : List ℕ} → Written b p t m e → Written m e u a e′ → Written b p (t ++ u) a e′

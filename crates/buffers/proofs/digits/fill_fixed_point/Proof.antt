@@ -1,16 +1,17 @@
 -- `fill_fixed_point` meets its contract.
 -- Assumes nothing.
-use mathlib.Core.Path.{_∙_}
+use mathlib.Core.Path.{sym, _∙_}
 use native.Mathlib.Omega.{arith}
 use denote.Ref.{now}
 use lib.ListN.{length-set}
-use Rattle.buffers.proofs.Decimal.{put-point}
+use Rattle.buffers.specs.Decimal.{lastDigits, decimal}
+use Rattle.buffers.proofs.Decimal.{length-digits, put-point}
 use borrow.Author.Needs.{needs}
 use Rattle.buffers.proofs.digits.fill_fixed_point.Statement.{statement}
 use Rattle.buffers.proofs.digits.fill_fixed_point.Tie as tie
 
-fill-digits-requires-2 : tie.Need-fill-digits-requires-2
-fill-digits-requires-2 c κs =
+fill-after-point-requires : tie.Need-fill-after-point-requires
+fill-after-point-requires c κs =
     let out = c .before .before .out in
     simp length-set (omega (arith, out .given))
 
@@ -24,17 +25,14 @@ returns : tie.Need-returns
 returns c =
     let args = c .before .before .before .before .before .before .before .before .before .args in
     let pre = c .before .before .before .before .before .before .before .before .before .pre in
-    let fill-digits = c .before .before .before .before .before .before .fill-digits in
-    let fill-digits2 = c .before .before .fill-digits2 in
-    let a = args in
-    put-point (now (a .out)) (a .at) (a .k) (a .whole) (a .d) (a .n) (pre) (fill-digits .ensures) (fill-digits2 .ensures)
+    let fill-decimal = c .before .before .before .before .before .before .fill-decimal in
+    let fill-after-point = c .before .before .fill-after-point in
+    put-point (now (args .out)) (args .at) (decimal (args .whole)) (lastDigits (args .d) (args .n)) (pre .0) (sym (length-digits (args .d) (args .n))) (pre .1)
+    (fill-decimal .ensures) (fill-after-point .ensures)
 
 pub fill-fixed-point-spec : {M : Type 1} → statement M
 fill-fixed-point-spec =
     tie.close
     (tie.spec
     (λ c κs. search needs) (λ c. search needs) (λ c. search needs) (λ c. search needs)
-    (λ c. search needs)
-    fill-digits-requires-2
-    same-length
-    returns)
+    (λ c. search needs) fill-after-point-requires same-length returns)

@@ -7,7 +7,7 @@ use denote.Ref.{now}
 use lib.Dec.{lit≤}
 use lib.ListN.{length, length-append}
 use Rattle.buffers.specs.Decimal.{decimal, fixedPoint}
-use Rattle.buffers.proofs.Decimal.{length-digits, decimal-digits, decimal-short}
+use Rattle.buffers.proofs.Decimal.{length-digits, decimal-short}
 use Rattle.buffers.proofs.Writing.{put-none, put-some}
 use borrow.Author.Needs.{needs}
 use Rattle.buffers.proofs.digits.put_fixed_point.Statement.{statement}
@@ -39,12 +39,11 @@ returns-2 c =
 returns-3 : tie.Need-returns-3
 returns-3 c =
     let args = c .before .before .before .before .before .before .before .before .args in
-    let count-digits = c .before .before .before .before .before .before .count-digits in
     let fill-fixed-point = c .before .before .fill-fixed-point in
     let a = args in
     let long = size (a .whole) (a .d) (a .n) in
     let end = put-some (now (a .out)) (a .at) (fixedPoint (a .whole) (a .d) (a .n)) (omega arith) .1 in
-    (rw (count-digits .ensures, decimal-digits) at (fill-fixed-point .ensures), omega arith)
+    (fill-fixed-point .ensures, omega arith)
 
 pub put-fixed-point-spec : {M : Type 1} → statement M
 put-fixed-point-spec =
