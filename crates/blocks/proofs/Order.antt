@@ -1,34 +1,32 @@
--- The refusals of reading, where the case's own are found by the operation on a case.
+-- The refusals of reading.
 -- Assumes nothing.
 use Prim.Native.Nat.{ℕ}
-use mathlib.Core.Bool.{cond, not}
+use mathlib.Core.Bool.{Bool}
 use mathlib.Core.List.{List}
 use mathlib.Core.Path.{_≡_, refl, ap, _∙_}
 use native.Mathlib.Omega.{arith}
-use lib.Dec.{eqb}
-use lib.ListN.{length}
-use borrow.Author.Tests.{eq-eqb, ne-eqb}
 use Rattle.numbers.proofs.Tests.{or-false}
 use Rattle.refusals.specs.Tests.{first, NoneOf, verdictNumber}
-use Rattle.refusals.specs.declared.Refusal.the-variants.{Length, Check}
 use Rattle.refusals.specs.declared.Verdict.{Verdict}
 use Rattle.refusals.specs.declared.Verdict.the-variants.{Passed, Refused}
 use Rattle.refusals.proofs.Order.{first-none}
-use Rattle.cases.specs.Layout.{check}
-use Rattle.cases.specs.Form.{formTests, reservedFault, WellFormed}
-use Rattle.blocks.specs.Block.{fieldOf, caseOf, zeroCase, checksum, unnamedFault}
+use Rattle.cases.specs.Layout.{headAt}
+use Rattle.cases.specs.Entries.{caseWith, caseBy, anyLine}
+use Rattle.cases.specs.Kinds.{rulesOf}
+use Rattle.cases.specs.Form.{lineReservedFault, lineRangeFault, headReservedFault, reservedFault, datesRangeFault, headRangeFault, rangeFault, formTests, formTestsBy, WellFormed}
+use Rattle.cases.specs.declared.Line.{Line}
+use Rattle.blocks.specs.Block.{fieldOf, caseOf, unnamedFault}
 use Rattle.blocks.specs.Reading.{readingTests, readingBy, readingOf}
 use Rattle.blocks.specs.declared.Reading.{Reading}
 
-pub short : (s : List ℕ) → (length s ≡ 512 → ⊥) → readingBy (Refused Length) zeroCase ≡ readingOf s
-unfolding readingOf
-short s n = rw (ne-eqb (length s) 512 n)
-
-pub by-case :
-    (s : List ℕ) → length s ≡ 512 →
-    readingBy (cond (not (eqb (checksum s) (fieldOf s check))) (Refused Check) (first (formTests (unnamedFault s) (caseOf s)))) (caseOf s) ≡ readingOf s
-unfolding readingOf
-by-case s e = rw (eq-eqb (length s) 512 e)
+-- the refusals of a block's case, from its fields before the lines and from what its lines break
+pub by-head :
+    (s : List ℕ) (unnamed : Bool) (lines : List Line) →
+    (let c = caseWith (λ h. fieldOf s (headAt h)) lines in
+    formTestsBy unnamed c (anyLine (lineReservedFault (rulesOf (c .kind)) (c .count)) (caseOf s)) (anyLine (lineRangeFault (rulesOf (c .kind)) (c .count)) (caseOf s)))
+    ≡ formTests unnamed (caseOf s)
+unfolding caseOf caseBy reservedFault rangeFault headReservedFault headRangeFault datesRangeFault
+by-head s unnamed lines = refl
 
 -- the number that a reading gives
 pub numbered :

@@ -2,7 +2,7 @@
 ghost use mathlib.Core.Path.{_≡_};
 ghost use Prim.Native.Nat.{_+_, _*_, _≤_};
 ghost use lib.ListN.{length};
-ghost use Rattle.cases.specs.Layout.{_wide_, place};
+ghost use Rattle.cases.specs.Layout.{_wide_, headAt, place};
 ghost use Rattle.cases.specs.Entries as entries;
 ghost use Rattle.blocks.specs.Block as block;
 use buffers::u8_at;
@@ -59,7 +59,7 @@ fn line_with(date: Date, n: [u64; 8]) -> Line
 }
 
 // Line i, from 0.
-fn line_of(b: &[u8], i: usize) -> Line
+pub(crate) fn line_of(b: &[u8], i: usize) -> Line
     requires { ⌜ i ≤ 3 ⌝ }
     ensures { λ r. ⌜ r ≡ entries.lineBy (λ e. block.fieldOf (now (b .entry)) (place e)) i ⌝ }
 {
@@ -69,10 +69,10 @@ fn line_of(b: &[u8], i: usize) -> Line
     line_with(date_at(b, at), n)
 }
 
-pub(crate) fn case_of(b: &[u8]) -> Case
-    ensures { λ r. ⌜ r ≡ block.caseOf (now (b .entry)) ⌝ }
+// The case of a block's fields before its lines, and of given lines.
+pub(crate) fn case_with(b: &[u8], lines: [Line; 4]) -> Case
+    ensures { λ r. ⌜ r ≡ entries.caseWith (λ h. block.fieldOf (now (b .entry)) (headAt h)) lines ⌝ }
 {
-    let lines = [line_of(b, 0), line_of(b, 1), line_of(b, 2), line_of(b, 3)];
     Case {
         kind: u16_at(b, 0),
         number: u32_at(b, 4),
@@ -91,6 +91,13 @@ pub(crate) fn case_of(b: &[u8]) -> Case
         contributions: u64_at(b, 56),
         lines: lines,
     }
+}
+
+pub(crate) fn case_of(b: &[u8]) -> Case
+    ensures { λ r. ⌜ r ≡ block.caseOf (now (b .entry)) ⌝ }
+{
+    let lines = [line_of(b, 0), line_of(b, 1), line_of(b, 2), line_of(b, 3)];
+    case_with(b, lines)
 }
 
 pub(crate) fn zero_case() -> Case

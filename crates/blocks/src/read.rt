@@ -1,32 +1,68 @@
 // Reading a block: refusals 1 to 5, or the case that it holds.
 ghost use mathlib.Core.Path.{_≡_};
+ghost use Prim.Native.Nat.{_≤_};
+ghost use lib.ListN.{length};
 ghost use Rattle.refusals.specs.Tests.{first, verdictNumber};
+ghost use Rattle.cases.specs.Entries.{anyLine};
+ghost use Rattle.cases.specs.Kinds.{rulesOf};
+ghost use Rattle.cases.specs.Form.{lineReservedFault, lineRangeFault, formTests};
+ghost use Rattle.blocks.specs.Block.{caseOf, unnamedFault};
 ghost use Rattle.blocks.specs.Reading as reading;
 use crate::Reading;
 use crate::check::checksum;
 use crate::fields::case_of;
+use crate::fields::case_with;
+use crate::fields::line_of;
 use crate::fields::zero_case;
 use crate::gaps::unnamed_fault;
 use buffers::u32_at;
-use cases::Case;
-use cases::form_verdict;
+use cases::Faults;
+use cases::faults_of_line;
+use cases::form_verdict_by;
+use cases::rules_of;
 use refusals::Refusal;
 use refusals::Verdict;
 use refusals::refuse_if;
 
-fn reading_by(v: Verdict, c: Case) -> Reading
-    ensures { λ r. ⌜ r ≡ reading.readingBy v c ⌝ }
+// What the lines of a block break, asked where they stand: a case made for this would be spread over the stack and copied again.
+fn faults_of_lines(b: &[u8], kind: u16, count: u8) -> Faults
+    ensures { λ r. ⌜ (r .reserved ≡ anyLine (lineReservedFault (rulesOf kind) count) (caseOf (now (b .entry)))) × (r .range ≡ anyLine (lineRangeFault (rulesOf kind) count) (caseOf (now (b .entry)))) ⌝ }
 {
-    match v {
-        Verdict::Passed => Reading {
-            verdict: Verdict::Passed,
-            case: c,
-        },
-        Verdict::Refused(why) => Reading {
-            verdict: Verdict::Refused(why),
-            case: zero_case(),
-        },
+    let rules = rules_of(kind);
+    let mut reserved = false;
+    let mut range = false;
+    let mut i: u8 = 0;
+    while i < 4 {
+        let l = line_of(b, i as usize);
+        let faults = faults_of_line(rules, count, i, l);
+        reserved = reserved | faults.reserved;
+        range = range | faults.range;
+        i += 1;
     }
+    Faults { reserved, range }
+}
+
+// Refusals 3, 4 and 5 of a block's case. Its lines are asked by themselves, so those of `head` are none of its own.
+fn form_of(b: &[u8]) -> Verdict
+    requires { ⌜ 512 ≤ length (now b) ⌝ }
+    ensures { λ r. ⌜ r ≡ first (formTests (unnamedFault (now (b .entry))) (caseOf (now (b .entry)))) ⌝ }
+{
+    let zero = zero_case();
+    let none = zero.lines;
+    let head = case_with(b, none);
+    let lines = faults_of_lines(b, head.kind, head.count);
+    form_verdict_by(head, unnamed_fault(b), lines)
+}
+
+// The first of refusals 1 to 5 that applies to a block of any length, or that none does.
+fn verdict_of(b: &[u8]) -> Verdict
+    ensures { λ r. ⌜ r ≡ first (reading.readingTests (now (b .entry))) ⌝ }
+{
+    if b.len() != 512 {
+        return Verdict::Refused(Refusal::Length);
+    }
+    let damaged = checksum(b) != u32_at(b, 508);
+    refuse_if(damaged, Refusal::Check, form_of(b))
 }
 
 // Reads a block of any length.
@@ -34,11 +70,14 @@ pub fn read_block(b: &[u8]) -> Reading
     ensures reading { λ r. ⌜ r ≡ reading.readingOf (now (b .entry)) ⌝ }
     ensures number { λ r. ⌜ verdictNumber (r .verdict) ≡ verdictNumber (first (reading.readingTests (now (b .entry)))) ⌝ }
 {
-    if b.len() != 512 {
-        return reading_by(Verdict::Refused(Refusal::Length), zero_case());
+    match verdict_of(b) {
+        Verdict::Passed => Reading {
+            verdict: Verdict::Passed,
+            case: case_of(b),
+        },
+        Verdict::Refused(why) => Reading {
+            verdict: Verdict::Refused(why),
+            case: zero_case(),
+        },
     }
-    let c = case_of(b);
-    let form = form_verdict(c, unnamed_fault(b));
-    let check = refuse_if(checksum(b) != u32_at(b, 508), Refusal::Check, form);
-    reading_by(check, c)
 }

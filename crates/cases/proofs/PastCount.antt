@@ -1,23 +1,27 @@
--- What refusals 3 and 4 leave of the lines of a case: at most four, and those past the count are zero.
+-- What refusals 3 and 4 leave of the lines of a case: at most four, and those past the count are zero. What a line of zeros breaks.
 -- Assumes nothing.
 use Prim.Native.Nat.{ℕ, _≤_, _<_}
-use mathlib.Core.Bool.{false, not, _&&_, and-eq-true-iff}
-use mathlib.Core.Path.{_≡_}
+use mathlib.Core.Bool.{Bool, true, false, not, _&&_, _||_, and-eq-true-iff, and-true, and-false}
+use mathlib.Core.Bool as bool
+use mathlib.Core.List.{List, [], _∷_}
+use mathlib.Core.Path.{_≡_, refl}
 use native.Mathlib.Omega.{arith}
 use lib.Dec.{eqb, leb}
-use borrow.Author.Tests.{leb-true, le-leb, eqb-true, not-false}
-use Rattle.numbers.specs.Lists.{Each}
+use borrow.Author.Tests.{leb-true, le-leb, lt-ltb, le-ltb, eqb-true, not-false}
+use Rattle.numbers.specs.Lists.{any, every, Each}
 use Rattle.numbers.proofs.Tests.{and-right-false, or-false}
 use Rattle.numbers.proofs.Below.{any-false}
-use Rattle.numbers.proofs.Lists.{each-not}
-use Rattle.calendar.specs.Dates.{isZero}
-use Rattle.cases.specs.Layout.{amounts}
+use Rattle.numbers.proofs.Lists.{each, of-listed}
+use Rattle.calendar.specs.Dates.{isReal, isZero}
+use Rattle.cases.specs.Layout.{Amount, amount-discrete, amounts, additional, dependant, lump, modification, schemePaysLump}
 use Rattle.cases.specs.Entries.{line, anyLine, amountIn}
 use Rattle.cases.specs.Kinds.{rulesOf}
-use Rattle.cases.specs.Form.{kindFault, filled, anyFilled, lineFilled, reservedFilled, lineReservedFault, headReservedFault, reservedFault}
+use Rattle.cases.specs.Form.{kindFault, filled, tooLarge, anyFilled, lineFilled, reservedFilled, lineReservedFault, lineRangeFault, headReservedFault, reservedFault}
+use Rattle.cases.proofs.Entries.{amount-listed}
 use Rattle.cases.proofs.RowsOfKinds.{four-lines}
 use Rattle.cases.specs.declared.Line.{Line}
 use Rattle.cases.specs.declared.Case.{Case}
+use Rattle.cases.specs.declared.Rules.{Rules}
 
 pub few-lines : (kind count : ℕ) → kindFault kind count ≡ false → count ≤ 4
 unfolding kindFault
@@ -36,9 +40,44 @@ zero-past c e i h p =
     (any-false 4 (λ j. lineReservedFault r (c .count) j (line c j)) lines i h) in
     and-right-false (leb (c .count) i) (lineFilled l) (le-leb (c .count) i p) (tests .0)
 
+-- a test that fails of no member holds of every one
+none-every : {A : Type 0} (t : A → Bool) (xs : List A) → any (λ x. not (t x)) xs ≡ false → every t xs ≡ true
+none-every t [] e = refl
+none-every t (x ∷ xs) e =
+    let b = or-false (not (t x)) (any (λ y. not (t y)) xs) e in rw (not-false (t x) (b .0)) (none-every t xs (b .1))
+
 -- each amount of a line of zeros is zero
-pub zero-amounts : (l : Line) → lineFilled l ≡ false → Each amounts (λ a. amountIn a l ≡ 0)
+zero-amount : (l : Line) → lineFilled l ≡ false → (a : Amount) → amountIn a l ≡ 0
 unfolding lineFilled
-zero-amounts l z =
-    each-not (λ a. filled (amountIn a l)) amounts (λ a e. eqb-true (amountIn a l) 0 (not-false (eqb (amountIn a l) 0) e))
-    (or-false (not (isZero (l .date))) (anyFilled amounts l) z .1)
+zero-amount l z a =
+    let zero : Amount → Bool = λ b. eqb (amountIn b l) 0 in
+    let none = or-false (not (isZero (l .date))) (anyFilled amounts l) z .1 in
+    eqb-true (amountIn a l) 0 (of-listed amount-discrete zero a amounts (amount-listed a) (none-every zero amounts none))
+
+pub zero-amounts : (l : Line) → lineFilled l ≡ false → Each amounts (λ a. amountIn a l ≡ 0)
+zero-amounts l z = each amounts (zero-amount l z)
+
+-- nothing in it is what its kind or place forbids, and no amount is above the limit
+pub zero-reserved : (rules : Rules) (i : ℕ) (l : Line) → lineFilled l ≡ false → reservedFilled rules i l ≡ false
+unfolding lineFilled reservedFilled
+zero-reserved rules i l z =
+    let date = or-false (not (isZero (l .date))) (anyFilled amounts l) z .0 in
+    let n = zero-amount l z in
+    rw (date, n lump, n schemePaysLump, n modification, n additional, n dependant) (simp and-false)
+
+pub zero-range : (l : Line) → lineFilled l ≡ false → any (λ a. tooLarge (amountIn a l)) amounts ≡ false
+zero-range l z = none amounts
+  where
+    none : (some : List Amount) → any (λ a. tooLarge (amountIn a l)) some ≡ false
+    none [] = refl
+    none (a ∷ some) = rw (zero-amount l z a) (none some)
+
+-- a line's range by whether it stands within the count
+module _ (rules : Rules) (count i : ℕ) (l : Line) where
+  pub range-within : i < count → lineRangeFault rules count i l ≡ (any (λ a. tooLarge (amountIn a l)) amounts || (rules .dated && not (isReal (l .date))))
+  unfolding lineRangeFault
+  range-within h = rw (lt-ltb i count h, and-true (rules .dated))
+
+  pub range-past : count ≤ i → lineRangeFault rules count i l ≡ any (λ a. tooLarge (amountIn a l)) amounts
+  unfolding lineRangeFault
+  range-past h = rw (le-ltb i count h, and-false (rules .dated)) (bool.or-false (any (λ a. tooLarge (amountIn a l)) amounts))

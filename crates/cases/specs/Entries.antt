@@ -2,7 +2,7 @@
 -- Assumes nothing.
 use Prim.Native.Nat.{ℕ, _+_, _*_, _/_, _%_}
 use mathlib.Core.Bool.{Bool}
-use mathlib.Core.List.{[], _∷_}
+use mathlib.Core.List.{List, [], _∷_}
 use mathlib.Core.Path.{_≡_}
 use lib.ListN.{getD}
 use Rattle.numbers.specs.Below.{anyBelow}
@@ -32,30 +32,34 @@ lineWith d n =
       «scheme_pays_lump» = n layout.schemePaysLump;
     }
 
+-- the case that some numbers, one to a field before the lines, and some lines make
+abbrev pub caseWith : (Head → ℕ) → List Line → Case
+caseWith n lines =
+    record {
+      kind = n layout.kind;
+      number = n layout.number;
+      status = n layout.status;
+      receiver = n layout.receiver;
+      flags = n layout.flags;
+      count = n layout.count;
+      service = n layout.service;
+      birth = dateOf (n layout.birth);
+      leaving = dateOf (n layout.leaving);
+      guarantee = dateOf (n layout.guarantee);
+      «state_pension» = dateOf (n layout.statePension);
+      revaluation = n layout.revaluation;
+      avc = n layout.avc;
+      transfer = n layout.transfer;
+      contributions = n layout.contributions;
+      lines = lines;
+    }
+
 -- the line and the case that some numbers make, one to an entry
 unfoldable pub lineBy : (Entry → ℕ) → ℕ → Line
 lineBy n i = lineWith (dateOf (n (date i))) (λ a. n (amount i a))
 
 unfoldable pub caseBy : (Entry → ℕ) → Case
-caseBy n =
-    record {
-      kind = n (head layout.kind);
-      number = n (head layout.number);
-      status = n (head layout.status);
-      receiver = n (head layout.receiver);
-      flags = n (head layout.flags);
-      count = n (head layout.count);
-      service = n (head layout.service);
-      birth = dateOf (n (head layout.birth));
-      leaving = dateOf (n (head layout.leaving));
-      guarantee = dateOf (n (head layout.guarantee));
-      «state_pension» = dateOf (n (head layout.statePension));
-      revaluation = n (head layout.revaluation);
-      avc = n (head layout.avc);
-      transfer = n (head layout.transfer);
-      contributions = n (head layout.contributions);
-      lines = lineBy n 0 ∷ lineBy n 1 ∷ lineBy n 2 ∷ lineBy n 3 ∷ [];
-    }
+caseBy n = caseWith (λ h. n (head h)) (lineBy n 0 ∷ lineBy n 1 ∷ lineBy n 2 ∷ lineBy n 3 ∷ [])
 
 -- line i of a case, from 0
 abbrev pub line : Case → ℕ → Line

@@ -105,6 +105,13 @@ formTests unnamed c =
     (unnamed || reservedFault c gives Reserved) ∷
     (rangeFault c gives Range) ∷ []
 
+-- For the code alone: the same of a case whose lines are looked at elsewhere, from what they break.
+abbrev pub formTestsBy : Bool → Case → Bool → Bool → List Test
+formTestsBy unnamed c reserved range =
+    (kindFault (c .kind) (c .count) gives Kind) ∷
+    (unnamed || (headReservedFault c || reserved) gives Reserved) ∷
+    (headRangeFault c || range gives Range) ∷ []
+
 -- a case to which none of them applies
 abbrev pub WellFormed : Case → Type 0
 WellFormed c = NoneOf (formTests false c)

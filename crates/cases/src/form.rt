@@ -3,6 +3,7 @@ ghost use mathlib.Core.Path.{_≡_};
 ghost use Rattle.refusals.specs.Tests.{first, verdictNumber};
 ghost use Rattle.cases.specs.Form as form;
 use crate::Case;
+use crate::Faults;
 use crate::flags::gmp_flag;
 use crate::flags::transfer_flag;
 use crate::flags::unused_flag;
@@ -74,13 +75,11 @@ fn head_range_fault(c: Case) -> bool
         | dates_range_fault(c)
 }
 
-// Refusals 3, 4 and 5 of a case, read or built by hand, beside which a byte of its block that no field names may be other than zero:
-// the first that applies, or that none does.
-pub fn form_verdict(c: Case, unnamed: bool) -> Verdict
-    ensures verdict { λ r. ⌜ r ≡ first (form.formTests unnamed c) ⌝ }
-    ensures number { λ r. ⌜ verdictNumber r ≡ verdictNumber (first (form.formTests unnamed c)) ⌝ }
+// Refusals 3, 4 and 5 as form_verdict finds them, where it is known what the lines break: those of c are not looked at.
+pub fn form_verdict_by(c: Case, unnamed: bool, lines: Faults) -> Verdict
+    ensures verdict { λ r. ⌜ r ≡ first (form.formTestsBy unnamed c (lines .reserved) (lines .range)) ⌝ }
+    ensures number { λ r. ⌜ verdictNumber r ≡ verdictNumber (first (form.formTestsBy unnamed c (lines .reserved) (lines .range))) ⌝ }
 {
-    let lines = faults_of_lines(c);
     let range = refuse_if(
         head_range_fault(c) | lines.range,
         Refusal::Range,
@@ -92,4 +91,13 @@ pub fn form_verdict(c: Case, unnamed: bool) -> Verdict
         range,
     );
     refuse_if(kind_fault(c.kind, c.count), Refusal::Kind, reserved)
+}
+
+// Refusals 3, 4 and 5 of a case, read or built by hand, beside which a byte of its block that no field names may be other than zero:
+// the first that applies, or that none does.
+pub fn form_verdict(c: Case, unnamed: bool) -> Verdict
+    ensures verdict { λ r. ⌜ r ≡ first (form.formTests unnamed c) ⌝ }
+    ensures number { λ r. ⌜ verdictNumber r ≡ verdictNumber (first (form.formTests unnamed c)) ⌝ }
+{
+    form_verdict_by(c, unnamed, faults_of_lines(c))
 }

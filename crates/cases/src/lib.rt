@@ -9,7 +9,9 @@ use factors::Table;
 pub use flags::gmp_flag;
 pub use flags::transfer_flag;
 pub use form::form_verdict;
+pub use form::form_verdict_by;
 pub use kinds::rules_of;
+pub use lines::faults_of_line;
 
 // One line of benefits: its pension date and its amounts in pence. The two amounts of Scheme Pays are debits, on the pension and on
 // the lump sum.
@@ -60,4 +62,10 @@ pub struct Rules {
     pub pension_age: u16,
     // The notes' table that holds its factors.
     pub table: Table,
+}
+
+// Whether lines break a must-be-zero rule, and whether a range.
+pub struct Faults {
+    pub reserved: bool,
+    pub range: bool,
 }

@@ -5,17 +5,12 @@ ghost use Rattle.numbers.specs.Lists.{any};
 ghost use Rattle.cases.specs.Layout.{amounts};
 ghost use Rattle.cases.specs.Entries.{amountIn, anyLine};
 ghost use Rattle.cases.specs.Kinds.{rulesOf};
-ghost use Rattle.cases.specs.Form.{filled, tooLarge, reservedFilled, lineReservedFault, lineRangeFault};
+ghost use Rattle.cases.specs.Form.{filled, tooLarge, lineFilled, reservedFilled, lineReservedFault, lineRangeFault};
 use crate::Case;
+use crate::Faults;
 use crate::Line;
 use crate::Rules;
 use crate::kinds::rules_of;
-
-// Whether a must-be-zero rule, and whether a range, is broken.
-pub(crate) struct Faults {
-    pub reserved: bool,
-    pub range: bool,
-}
 
 // Whether one of some amounts is not zero, and whether one is above the limit.
 struct AmountTests {
@@ -72,15 +67,42 @@ fn reserved_filled(rules: Rules, i: u8, l: Line) -> bool
         | ((1 <= i) & ((l.additional != 0) | (l.dependant != 0)))
 }
 
-fn faults_of_line(rules: Rules, count: u8, i: u8, l: Line) -> Faults
-    ensures { λ r. ⌜ (r .reserved ≡ lineReservedFault rules count i l) × (r .range ≡ lineRangeFault rules count i l) ⌝ }
+fn some_too_large(l: Line) -> bool
+    ensures { λ r. ⌜ r ≡ any (λ a. tooLarge (amountIn a l)) amounts ⌝ }
 {
     let amounts = amounts_of(l);
     let tests = test_amounts(&amounts);
-    Faults {
-        reserved: ((count <= i) & (!calendar::is_zero(l.date) | tests.filled))
-            | reserved_filled(rules, i, l),
-        range: tests.too_large | (rules.dated & (i < count) & !calendar::is_real(l.date)),
+    tests.too_large
+}
+
+fn line_filled(l: Line) -> bool
+    ensures { λ r. ⌜ r ≡ lineFilled l ⌝ }
+{
+    let amounts = amounts_of(l);
+    let tests = test_amounts(&amounts);
+    !calendar::is_zero(l.date) | tests.filled
+}
+
+// What line i of a case with so many lines breaks. Past the count a line of zeros, as nearly every one is, is asked nothing else.
+pub fn faults_of_line(rules: Rules, count: u8, i: u8, l: Line) -> Faults
+    ensures { λ r. ⌜ (r .reserved ≡ lineReservedFault rules count i l) × (r .range ≡ lineRangeFault rules count i l) ⌝ }
+{
+    if i < count {
+        return Faults {
+            reserved: reserved_filled(rules, i, l),
+            range: some_too_large(l) | (rules.dated & !calendar::is_real(l.date)),
+        };
+    }
+    if line_filled(l) {
+        Faults {
+            reserved: true,
+            range: some_too_large(l),
+        }
+    } else {
+        Faults {
+            reserved: false,
+            range: false,
+        }
     }
 }
 

@@ -1,7 +1,11 @@
 // Refusals 6, 10, 11 and 17, which look at dates.
 ghost use mathlib.Core.Path.{_≡_};
 ghost use Prim.Native.Nat.{_<_};
-ghost use Rattle.cases.specs.Entries.{anyLine};
+ghost use mathlib.Core.Bool.{_&&_, _||_};
+ghost use Rattle.calendar.specs.Dates as dates;
+ghost use Rattle.calendar.specs.Moving.{movedOn};
+ghost use Rattle.cases.specs.Entries.{line, anyLine};
+ghost use Rattle.cases.specs.Kinds.{rulesOf};
 ghost use Rattle.entitlement.specs.Entitlement as entitlement;
 use calendar::Date;
 use calendar::before;
@@ -22,14 +26,23 @@ fn misplaced_fault(c: Case) -> bool
         | ((3 < c.count) & !before(e.date, a.date))
 }
 
-pub(crate) fn dates_fault(c: Case) -> bool
-    ensures { λ r. ⌜ r ≡ entitlement.datesFault c ⌝ }
+// What refusal 6 asks of dated lines; with a branch, so that no other case works it out for nothing.
+fn dated_fault(c: Case) -> bool
+    ensures { λ r. ⌜ r ≡ (rulesOf (c .kind) .dated && (dates.before (line c 0 .date) (movedOn 65 (c .birth)) || anyLine (entitlement.misplaced c) c)) ⌝ }
 {
     let rules = rules_of(c.kind);
     let first = c.lines[0];
-    !before(c.birth, c.leaving)
-        | before(c.guarantee, c.leaving)
-        | (rules.dated & (calendar::before_birthday(first.date, c.birth, 65) | misplaced_fault(c)))
+    if rules.dated {
+        calendar::before_birthday(first.date, c.birth, 65) | misplaced_fault(c)
+    } else {
+        false
+    }
+}
+
+pub(crate) fn dates_fault(c: Case) -> bool
+    ensures { λ r. ⌜ r ≡ entitlement.datesFault c ⌝ }
+{
+    !before(c.birth, c.leaving) | before(c.guarantee, c.leaving) | dated_fault(c)
 }
 
 pub(crate) fn order_fault(c: Case) -> bool
@@ -39,8 +52,11 @@ pub(crate) fn order_fault(c: Case) -> bool
     let b = c.lines[1];
     let d = c.lines[2];
     let e = c.lines[3];
-    rules.dated
-        & (((2 < c.count) & !before(d.date, b.date)) | ((3 < c.count) & !before(e.date, d.date)))
+    if rules.dated {
+        ((2 < c.count) & !before(d.date, b.date)) | ((3 < c.count) & !before(e.date, d.date))
+    } else {
+        false
+    }
 }
 
 pub(crate) fn refer_fault(c: Case) -> bool

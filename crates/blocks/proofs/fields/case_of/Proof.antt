@@ -1,8 +1,11 @@
 -- `case_of` meets its contract.
 -- Assumes nothing.
 use mathlib.Core.List.{[], _∷_}
-use Rattle.cases.specs.Entries.{caseBy}
-use Rattle.blocks.specs.Block.{caseOf}
+use mathlib.Core.Path.{ap, _∙_}
+use denote.Ref.{now}
+use Rattle.cases.specs.Layout.{headAt}
+use Rattle.cases.specs.Entries.{caseWith, caseBy}
+use Rattle.blocks.specs.Block.{fieldOf, caseOf}
 use borrow.Author.Needs.{needs}
 use Rattle.blocks.proofs.fields.case_of.Statement.{statement}
 use Rattle.blocks.proofs.fields.case_of.Tie as tie
@@ -10,52 +13,19 @@ use Rattle.blocks.proofs.fields.case_of.Tie as tie
 returns : tie.Need-returns
 unfolding caseOf caseBy
 returns c =
-    let line-of = c .before .before .before .before .before .before .before .before .before .before .before .before .before .before .before .before .before .before .line-of in
-    let line-of2 = c .before .before .before .before .before .before .before .before .before .before .before .before .before .before .before .before .before .line-of2 in
-    let line-of3 = c .before .before .before .before .before .before .before .before .before .before .before .before .before .before .before .before .line-of3 in
-    let line-of4 = c .before .before .before .before .before .before .before .before .before .before .before .before .before .before .before .line-of4 in
-    let u16-at = c .before .before .before .before .before .before .before .before .before .before .before .before .before .before .u16-at in
-    let u32-at = c .before .before .before .before .before .before .before .before .before .before .before .before .before .u32-at in
-    let u8-at = c .before .before .before .before .before .before .before .before .before .before .before .before .u8-at in
-    let u8-at2 = c .before .before .before .before .before .before .before .before .before .before .before .u8-at2 in
-    let u8-at3 = c .before .before .before .before .before .before .before .before .before .before .u8-at3 in
-    let u8-at4 = c .before .before .before .before .before .before .before .before .before .u8-at4 in
-    let u16-at2 = c .before .before .before .before .before .before .before .before .u16-at2 in
-    let date-at = c .before .before .before .before .before .before .before .date-at in
-    let date-at2 = c .before .before .before .before .before .before .date-at2 in
-    let date-at3 = c .before .before .before .before .before .date-at3 in
-    let date-at4 = c .before .before .before .before .date-at4 in
-    let u32-at2 = c .before .before .before .u32-at2 in
-    let u64-at = c .before .before .u64-at in
-    let u64-at2 = c .before .u64-at2 in
-    let u64-at3 = c .u64-at3 in
-    λ i.
-    record {
-      kind = u16-at .ensures i;
-      number = u32-at .ensures i;
-      status = u8-at .ensures i;
-      receiver = u8-at2 .ensures i;
-      flags = u8-at3 .ensures i;
-      count = u8-at4 .ensures i;
-      service = u16-at2 .ensures i;
-      birth = date-at .ensures i;
-      leaving = date-at2 .ensures i;
-      guarantee = date-at3 .ensures i;
-      «state_pension» = date-at4 .ensures i;
-      revaluation = u32-at2 .ensures i;
-      avc = u64-at .ensures i;
-      transfer = u64-at2 .ensures i;
-      contributions = u64-at3 .ensures i;
-      lines = line-of .ensures i ∷ line-of2 .ensures i ∷ line-of3 .ensures i ∷ line-of4 .ensures i ∷ [];
-    }
+    let args = c .before .before .before .before .before .before .args in
+    let line-of = c .before .before .before .before .line-of in
+    let line-of2 = c .before .before .before .line-of2 in
+    let line-of3 = c .before .before .line-of3 in
+    let line-of4 = c .before .line-of4 in
+    c .case-with .ensures
+    ∙ ap (caseWith (λ h. fieldOf (now (args .b)) (headAt h)))
+    (λ i. line-of .ensures i ∷ line-of2 .ensures i ∷ line-of3 .ensures i ∷ line-of4 .ensures i ∷ [])
 
 pub case-of-spec : {M : Type 1} → statement M
 case-of-spec =
     tie.close
     (tie.spec
     (λ c κs. search needs) (λ c κs. search needs) (λ c κs. search needs) (λ c κs. search needs)
-    (λ c κs. search needs) (λ c κs. search needs) (λ c κs. search needs) (λ c κs. search needs)
-    (λ c κs. search needs) (λ c κs. search needs) (λ c κs. search needs) (λ c κs. search needs)
-    (λ c κs. search needs) (λ c κs. search needs) (λ c κs. search needs) (λ c κs. search needs)
-    (λ c κs. search needs) (λ c κs. search needs) (λ c κs. search needs)
+    (λ c κs. search needs)
     returns)

@@ -1,24 +1,57 @@
 -- `faults_of_line` meets its contract.
 -- Assumes nothing.
-use Rattle.cases.specs.Form.{lineFilled, lineReservedFault, lineRangeFault}
+use mathlib.Core.Path.{sym, _∙_}
+use native.Mathlib.Omega.{arith}
+use borrow.Author.Tests.{le-leb, lt-leb}
 use borrow.Author.Needs.{needs}
+use Rattle.cases.specs.Form.{lineReservedFault}
+use Rattle.cases.proofs.PastCount.{zero-reserved, zero-range, range-within, range-past}
 use Rattle.cases.proofs.lines.faults_of_line.Statement.{statement}
 use Rattle.cases.proofs.lines.faults_of_line.Tie as tie
 
 returns : tie.Need-returns
-unfolding lineFilled lineReservedFault lineRangeFault
+unfolding lineReservedFault
 returns c =
-    let amounts-of = c .before .before .before .before .before .before .before .before .amounts-of in
-    let test-amounts = c .before .before .before .before .before .before .test-amounts in
-    let is-zero = c .before .before .before .before .before .is-zero in
+    let args = c .before .before .before .before .before .args in
     let reserved-filled = c .before .before .before .reserved-filled in
+    let some-too-large = c .before .before .some-too-large in
     let is-real = c .before .is-real in
-    (rw (test-amounts .ensures .0, amounts-of .ensures, is-zero .ensures, reserved-filled .ensures), rw (test-amounts .ensures .1, amounts-of .ensures, is-real .ensures))
+    let i = args .i in
+    let count = args .count in (
+      rw (reserved-filled .ensures, lt-leb count i (omega arith)),
+      rw (some-too-large .ensures, is-real .ensures, range-within (args .rules) count i (args .l) (omega arith)),
+    )
+
+returns-2 : tie.Need-returns-2
+unfolding lineReservedFault
+returns-2 c =
+    let args = c .before .before .before .before .args in
+    let line-filled = c .before .before .line-filled in
+    let if2 = c .before .if2 in
+    let i = args .i in
+    let count = args .count in (
+      rw (← line-filled .ensures, if2 .taken, le-leb count i (omega arith)),
+      rw (c .some-too-large2 .ensures, range-past (args .rules) count i (args .l) (omega arith)),
+    )
+
+returns-3 : tie.Need-returns-3
+unfolding lineReservedFault
+returns-3 c =
+    let args = c .before .before .before .args in
+    let line-filled = c .before .line-filled in
+    let i = args .i in
+    let count = args .count in
+    let zero = sym (line-filled .ensures) ∙ c .if2 .left in (
+      rw (zero, le-leb count i (omega arith), zero-reserved (args .rules) i (args .l) zero),
+      rw (range-past (args .rules) count i (args .l) (omega arith), zero-range (args .l) zero),
+    )
 
 pub faults-of-line-spec : {M : Type 1} → statement M
 faults-of-line-spec =
     tie.close
     (tie.spec
-    (λ c κs. search needs) (λ c. search needs) (λ c κs. search needs) (λ c κs. search needs)
+    (λ c κs. search needs) (λ c κs. search needs) (λ c κs. search needs)
+    returns
     (λ c κs. search needs) (λ c κs. search needs)
-    returns)
+    returns-2
+    returns-3)

@@ -10,9 +10,14 @@ returns : tie.Need-returns
 unfolding anyBelow lineBy
 returns c =
     let rules-of = c .before .before .before .before .before .before .rules-of in
-    let before2 = c .before .before .before2 in
-    let before3 = c .before .before3 in
-    rw (rules-of .ensures, before2 .ensures, before3 .ensures)
+    let if1 = c .before .before .if1 in
+    let before2 = c .before .before2 in
+    rw (← rules-of .ensures, if1 .taken, before2 .ensures, c .before3 .ensures)
+
+returns-2 : tie.Need-returns-2
+returns-2 c =
+    let rules-of = c .before .before .before .before .rules-of in
+    rw (← rules-of .ensures, c .if1 .left)
 
 pub order-fault-spec : {M : Type 1} → statement M
 order-fault-spec =
@@ -20,4 +25,5 @@ order-fault-spec =
     (tie.spec
     (λ c κs. search needs) (λ c. search needs) (λ c. search needs) (λ c. search needs)
     (λ c κs. search needs) (λ c κs. search needs)
-    returns)
+    returns
+    returns-2)
