@@ -8,9 +8,8 @@
 uint32_t stages_check(const uint8_t *block, size_t length);
 uint32_t stages_check_by_bytes(const uint8_t *block, size_t length);
 
-#define ROUNDS 15
 #define MOST 100000
-#define FEW 64
+#define FEW 32
 
 /* Times both over the blocks, gone through so many times in a round. */
 static void compare(const char *where, const uint8_t *data, size_t blocks, size_t times)
@@ -24,7 +23,7 @@ static void compare(const char *where, const uint8_t *data, size_t blocks, size_
             double start = now();
             for (size_t t = 0; t < times; t++)
                 for (size_t i = 0; i < blocks; i++)
-                    sum += checks[which](data + BLOCK * i, BLOCK);
+                    sum += checks[which](data + CETV_BLOCK_SIZE * i, CETV_BLOCK_SIZE);
             double took = now() - start;
             best[which] = took < best[which] ? took : best[which];
             kept += sum;
@@ -42,13 +41,13 @@ int main(int argc, char **argv)
     const uint8_t *data = blocks_of(argv[1], &blocks);
     blocks = blocks < MOST ? blocks : MOST;
     for (size_t i = 0; i < blocks; i++)
-        if (stages_check(data + BLOCK * i, BLOCK) != stages_check_by_bytes(data + BLOCK * i, BLOCK)) {
+        if (stages_check(data + CETV_BLOCK_SIZE * i, CETV_BLOCK_SIZE) != stages_check_by_bytes(data + CETV_BLOCK_SIZE * i, CETV_BLOCK_SIZE)) {
             printf("block %zu: the check by words differs from that by bytes\n", i + 1);
             return 1;
         }
     printf("the check of %zu blocks, by bytes and by words the same number for each:\n", blocks);
-    compare("from memory", data, blocks, 1);
+    compare("one block after another", data, blocks, 1);
     if (blocks >= FEW)
-        compare("from cache, 64 blocks over and over", data, FEW, blocks / FEW);
+        compare("from cache, the first 32 over and over", data, FEW, blocks / FEW);
     return 0;
 }

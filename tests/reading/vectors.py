@@ -597,24 +597,27 @@ def stated_checks():
 
 
 def checks_by_words():
-    """The check may be taken a 32-bit word at a time, in rows of eight words: the edges of words and of rows, and sums
-    that such a check gets when it goes wrong. The blocks are of no kind, and with the right check refused 3."""
+    """The check taken a 32-bit word at a time, in rows of eight words: bytes at the edges of words and rows, and the sums that
+    such a check gives when it is wrong. The blocks are of no kind; with the right check they are refused 3."""
     group("2 check, by words")
     for position in (3, 4, 31, 32, 447, 448, 479, 480, 503, 504):
         block = with_bytes(bytes(512), {position: 255})
         stated = 255 * (position + 1)
         vector_of_bytes(f"byte {position} is 255, check {stated}", 3, with_check(block, stated))
         vector_of_bytes(f"byte {position} is 255, check {stated - 255}", 2, with_check(block, stated - 255))
-    block = bytes((37 * i + 11) % 256 for i in range(508)) + bytes(4)
+    block = bytes((37 * i + 16) % 256 for i in range(508)) + bytes(4)
     right = check_of(block)
-    added = [sum((4 * k + i + 1) * block[4 * k + i] for i in range(4)) for k in range(127)]
-    own_word = sum((508 + i + 1) * byte for i, byte in enumerate(right.to_bytes(4, "little")))
+
+    def with_own_word(stated):
+        """The sum that counts the check's own bytes too, where the block holds this check."""
+        return right + sum((508 + i + 1) * byte for i, byte in enumerate(stated.to_bytes(4, "little")))
+
     sums = {
         "the bytes of each word in the other order": sum((4 * (i // 4) + 4 - i % 4) * block[i] for i in range(508)),
-        "the last word left out": right - added[126],
-        "the words after the last whole row left out": right - sum(added[120:]),
-        "the word of the check taken in": right + own_word,
-        "each row counted once too often": right + 32 * sum(block[:508]),
+        "the last word left out": right - sum((i + 1) * block[i] for i in range(504, 508)),
+        "the words after the last whole row left out": right - sum((i + 1) * block[i] for i in range(480, 508)),
+        "the word of the check taken in": next(n for n in range(right, 2**32) if n == with_own_word(n)),
+        "each row counted once too often": right + 32 * sum(block[:480]),
         "the last row counted once too often": right + 32 * sum(block[448:480]),
     }
     vector_of_bytes("bytes of every size, right check", 3, with_check(block, right))

@@ -1,7 +1,7 @@
 -- The refusals of reading.
 -- Assumes nothing.
 use Prim.Native.Nat.{ℕ}
-use mathlib.Core.Bool.{Bool}
+use mathlib.Core.Bool.{Bool, _||_}
 use mathlib.Core.List.{List}
 use mathlib.Core.Path.{_≡_, refl, ap, _∙_}
 use native.Mathlib.Omega.{arith}
@@ -13,7 +13,7 @@ use Rattle.refusals.proofs.Order.{first-none}
 use Rattle.cases.specs.Layout.{headAt}
 use Rattle.cases.specs.Entries.{caseWith, caseBy, anyLine}
 use Rattle.cases.specs.Kinds.{rulesOf}
-use Rattle.cases.specs.Form.{lineReservedFault, lineRangeFault, headReservedFault, reservedFault, datesRangeFault, headRangeFault, rangeFault, formTests, formTestsBy, WellFormed}
+use Rattle.cases.specs.Form.{kindFault, lineReservedFault, lineRangeFault, headReservedFault, reservedFault, datesRangeFault, headRangeFault, rangeFault, formTests, formTestsBy, WellFormed}
 use Rattle.cases.specs.declared.Line.{Line}
 use Rattle.blocks.specs.Block.{fieldOf, caseOf, unnamedFault}
 use Rattle.blocks.specs.Reading.{readingTests, readingBy, readingOf}
@@ -23,7 +23,9 @@ use Rattle.blocks.specs.declared.Reading.{Reading}
 pub by-head :
     (s : List ℕ) (unnamed : Bool) (lines : List Line) →
     (let c = caseWith (λ h. fieldOf s (headAt h)) lines in
-    formTestsBy unnamed c (anyLine (lineReservedFault (rulesOf (c .kind)) (c .count)) (caseOf s)) (anyLine (lineRangeFault (rulesOf (c .kind)) (c .count)) (caseOf s)))
+    formTestsBy (kindFault (c .kind) (c .count))
+    (unnamed || (headReservedFault c || anyLine (lineReservedFault (rulesOf (c .kind)) (c .count)) (caseOf s)))
+    (headRangeFault c || anyLine (lineRangeFault (rulesOf (c .kind)) (c .count)) (caseOf s)))
     ≡ formTests unnamed (caseOf s)
 unfolding caseOf caseBy reservedFault rangeFault headReservedFault headRangeFault datesRangeFault
 by-head s unnamed lines = refl

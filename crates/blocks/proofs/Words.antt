@@ -106,7 +106,7 @@ in-halves x a b e h = (omega arith, omega arith)
 short-modulo : (x : ℕ) → x ≤ 15300 → x % 32768 ≡ x
 short-modulo x h = omega arith
 
--- a row before the last
+-- no row starts after the last one
 pub row-within : (stride n i : ℕ) → i < n → stride * i ≤ stride * (n - 1)
 row-within stride n i h = mul-le-mul-left stride (omega arith)
 

@@ -11,7 +11,7 @@ use Rattle.blocks.specs.declared.check.Sums.{Sums}
 unfoldable pub wordSum : List ℕ → ℕ → ℕ
 wordSum s p = sumBelow 4 (λ i. (p + i + 1) * getD s (p + i) 0)
 
--- the odd bytes of a word, its second and its fourth, in the halves of a number
+-- the bytes at the odd positions of a word, its second and its fourth, each in one half of a number
 abbrev pub oddBytes : ℕ → ℕ
 oddBytes w = w / 256 % 256 + 65536 * (w / 16777216)
 

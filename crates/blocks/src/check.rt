@@ -1,6 +1,6 @@
-// The check of a block, a 32-bit word at a time. Words that stand a stride apart are added from the last to the first, and so are
-// the sums reached on the way: that counts each word as often as its row says, and multiplies none. A sum of words is one of their
-// bytes too, the even and the odd ones on top of each other, and these are told apart at the end.
+// The check of a block, a 32-bit word at a time. Words a stride apart are added from the last to the first, and before each one the
+// sum so far is added to a second sum: so each word is counted as often as its row number says, and no word is multiplied. In a sum
+// of words the sums of their bytes overlap; the sum of the bytes at odd positions, kept beside it, takes them apart at the end.
 ghost use mathlib.Core.Path.{_≡_};
 ghost use Prim.Native.Nat.{_+_, _*_, _/_, _%_, _-_, _≤_};
 ghost use lib.ListN.{length};
@@ -11,13 +11,13 @@ ghost use Rattle.blocks.specs.Words.{wordSum, oddBytes, wordAt, oddAt, S
 use std::num::wrapping_add_u32;
 use std::num::wrapping_sub_u32;
 
-// Of some numbers, the sum, and the sum of (place, from 0) times the number; modulo 2^32.
+// Of some numbers: their sum, and the sum of each times its place, counted from 0; both modulo 2^32.
 struct Sums {
     pub plain: u32,
     pub weighted: u32,
 }
 
-// The sums of some words, and those of their odd bytes.
+// The sums of some words, and those of their bytes at odd positions.
 struct WordSums {
     pub words: Sums,
     pub odd: Sums,
@@ -29,7 +29,7 @@ fn widened(x: u8) -> u32
     x as u32
 }
 
-// The word at an index. There is no test of the length, with which the loop over words would take twice the time.
+// The word at an index. It does not test the length: with that test the compiler would take one word at a time, not four.
 fn word_at(b: &[u8], at: usize) -> u32
     requires { ⌜ at + 4 ≤ length (now b) ⌝ }
     ensures { λ r. ⌜ r ≡ numberAt 4 (now (b .entry)) at ⌝ }
@@ -40,7 +40,7 @@ fn word_at(b: &[u8], at: usize) -> u32
         + 16777216 * widened(b[at + 3])
 }
 
-// The second and the fourth byte of a word, in the halves of a number.
+// The bytes at the odd positions of a word, its second and its fourth, each in one half of a number.
 fn odd_bytes(w: u32) -> u32
     ensures { λ r. ⌜ r ≡ oddBytes w ⌝ }
 {
@@ -80,7 +80,8 @@ fn add_words(b: &[u8], start: usize, stride: usize, n: usize) -> WordSums
     WordSums { words, odd }
 }
 
-// A sum of words without 255 times that of their odd bytes: what is left counts every byte once, two in each half.
+// A sum of words without 255 times that of their odd bytes: what is left counts every byte once, two in each half. 256 times the
+// one is taken off modulo 2^32, and once is added again.
 fn pairs_of(words: u32, odd: u32) -> u32
     ensures { λ r. ⌜ (r + 255 * odd) % 4294967296 ≡ words ⌝ }
 {
@@ -100,8 +101,8 @@ fn product(weight: u32, sum: u32) -> u32
     weight * sum
 }
 
-// What words a stride apart add to the check, from their sums. The sum of their bytes is below 32768: where the compiler sees that,
-// its product takes one instruction for four columns.
+// What words a stride apart add to the check, from their sums. The sum of their bytes is below 32768, so `% 32768` changes nothing;
+// it shows the compiler that one instruction can multiply four columns.
 fn weigh(start: u32, stride: u32, pairs: u32, weighted: u32, odd: u32) -> u32
     requires { ⌜ (start ≤ 480) × (stride ≤ 32) ⌝ }
     ensures { λ r. ⌜ (r ≡ weighed start stride pairs weighted odd) × (r ≤ 140000000) ⌝ }

@@ -69,7 +69,7 @@ pub(crate) fn line_of(b: &[u8], i: usize) -> Line
     line_with(date_at(b, at), n)
 }
 
-// The case of a block's fields before its lines, and of given lines.
+// The case that a block's fields before the lines, and the lines given, make.
 pub(crate) fn case_with(b: &[u8], lines: [Line; 4]) -> Case
     ensures { λ r. ⌜ r ≡ entries.caseWith (λ h. block.fieldOf (now (b .entry)) (headAt h)) lines ⌝ }
 {

@@ -24,8 +24,9 @@ use refusals::Refusal;
 use refusals::Verdict;
 use refusals::refuse_if;
 
-// What the lines of a block break, asked where they stand: a case made for this would be spread over the stack and copied again.
-fn faults_of_lines(b: &[u8], kind: u16, count: u8) -> Faults
+// What the lines of a block break. Each is read and tested by itself: a whole case made for this would be spread over the stack and
+// copied again.
+fn faults_of_block_lines(b: &[u8], kind: u16, count: u8) -> Faults
     ensures { λ r. ⌜ (r .reserved ≡ anyLine (lineReservedFault (rulesOf kind) count) (caseOf (now (b .entry)))) × (r .range ≡ anyLine (lineRangeFault (rulesOf kind) count) (caseOf (now (b .entry)))) ⌝ }
 {
     let rules = rules_of(kind);
@@ -42,15 +43,15 @@ fn faults_of_lines(b: &[u8], kind: u16, count: u8) -> Faults
     Faults { reserved, range }
 }
 
-// Refusals 3, 4 and 5 of a block's case. Its lines are asked by themselves, so those of `head` are none of its own.
-fn form_of(b: &[u8]) -> Verdict
+// Refusals 3, 4 and 5 of a block's case. Its lines are tested in the block, so `head` has lines of zeros in their place.
+fn form_verdict_of(b: &[u8]) -> Verdict
     requires { ⌜ 512 ≤ length (now b) ⌝ }
     ensures { λ r. ⌜ r ≡ first (formTests (unnamedFault (now (b .entry))) (caseOf (now (b .entry)))) ⌝ }
 {
     let zero = zero_case();
-    let none = zero.lines;
-    let head = case_with(b, none);
-    let lines = faults_of_lines(b, head.kind, head.count);
+    let zero_lines = zero.lines;
+    let head = case_with(b, zero_lines);
+    let lines = faults_of_block_lines(b, head.kind, head.count);
     form_verdict_by(head, unnamed_fault(b), lines)
 }
 
@@ -62,7 +63,7 @@ fn verdict_of(b: &[u8]) -> Verdict
         return Verdict::Refused(Refusal::Length);
     }
     let damaged = checksum(b) != u32_at(b, 508);
-    refuse_if(damaged, Refusal::Check, form_of(b))
+    refuse_if(damaged, Refusal::Check, form_verdict_of(b))
 }
 
 // Reads a block of any length.

@@ -5,8 +5,8 @@ ghost use lib.ListN.{length};
 ghost use Rattle.buffers.specs.Text.{putAt, putEnd};
 ghost use Rattle.buffers.specs.Decimal.{lastDigits, decimal, fixedPoint};
 
-// Two digits, made in one number of two bytes, so that they are stored together.
-fn fill_two(out: &mut [u8], at: usize, n: u64)
+// Two digits, put together in one number of two bytes, so that the compiler stores both at once.
+fn fill_two_digits(out: &mut [u8], at: usize, n: u64)
     requires { ⌜ n < 100 ⌝ }
     requires { ⌜ at + 2 ≤ length (now out) ⌝ }
     ensures { λ _. ⌜ now (out .exit) ≡ putAt (now (out .entry)) at (lastDigits 2 n) ⌝ }
@@ -16,13 +16,13 @@ fn fill_two(out: &mut [u8], at: usize, n: u64)
     out[at] = (both % 256) as u8;
 }
 
-fn fill_four(out: &mut [u8], at: usize, n: u64)
+fn fill_four_digits(out: &mut [u8], at: usize, n: u64)
     requires { ⌜ n < 10000 ⌝ }
     requires { ⌜ at + 4 ≤ length (now out) ⌝ }
     ensures { λ _. ⌜ now (out .exit) ≡ putAt (now (out .entry)) at (lastDigits 4 n) ⌝ }
 {
-    fill_two(out, at + 2, n % 100);
-    fill_two(out, at, n / 100);
+    fill_two_digits(out, at + 2, n % 100);
+    fill_two_digits(out, at, n / 100);
 }
 
 // The last of the digits are stored first, two to a division.
@@ -34,7 +34,7 @@ fn fill_digits(out: &mut [u8], at: usize, n: u64, k: usize)
     let mut rest = n;
     while 1 < i {
         i -= 2;
-        fill_two(out, at + i, rest % 100);
+        fill_two_digits(out, at + i, rest % 100);
         rest /= 100;
     }
     if i == 1 {
@@ -42,7 +42,7 @@ fn fill_digits(out: &mut [u8], at: usize, n: u64, k: usize)
     }
 }
 
-fn fill_one_or_two(out: &mut [u8], at: usize, n: u64)
+fn fill_up_to_two_digits(out: &mut [u8], at: usize, n: u64)
     requires { ⌜ n < 100 ⌝ }
     requires { ⌜ at + length (decimal n) ≤ length (now out) ⌝ }
     ensures { λ _. ⌜ now (out .exit) ≡ putAt (now (out .entry)) at (decimal n) ⌝ }
@@ -50,21 +50,21 @@ fn fill_one_or_two(out: &mut [u8], at: usize, n: u64)
     if n < 10 {
         out[at] = 48 + n as u8;
     } else {
-        fill_two(out, at, n);
+        fill_two_digits(out, at, n);
     }
 }
 
-fn fill_up_to_four(out: &mut [u8], at: usize, n: u64, end: usize)
+fn fill_up_to_four_digits(out: &mut [u8], at: usize, n: u64, end: usize)
     requires { ⌜ n < 10000 ⌝ }
     requires { ⌜ end ≡ at + length (decimal n) ⌝ }
     requires { ⌜ end ≤ length (now out) ⌝ }
     ensures { λ _. ⌜ now (out .exit) ≡ putAt (now (out .entry)) at (decimal n) ⌝ }
 {
     if n < 100 {
-        fill_one_or_two(out, at, n);
+        fill_up_to_two_digits(out, at, n);
     } else {
-        fill_two(out, end - 2, n % 100);
-        fill_one_or_two(out, at, n / 100);
+        fill_two_digits(out, end - 2, n % 100);
+        fill_up_to_two_digits(out, at, n / 100);
     }
 }
 
@@ -78,10 +78,10 @@ fn fill_decimal(out: &mut [u8], at: usize, n: u64, k: usize)
     let mut rest = n;
     while 9999 < rest {
         end -= 4;
-        fill_four(out, end, rest % 10000);
+        fill_four_digits(out, end, rest % 10000);
         rest /= 10000;
     }
-    fill_up_to_four(out, at, rest, end);
+    fill_up_to_four_digits(out, at, rest, end);
 }
 
 // How many decimal digits n has: comparing takes less time than dividing, and most numbers have six or fewer. Where the loop is
@@ -126,13 +126,13 @@ pub fn put_decimal(out: &mut [u8], at: usize, n: u64) -> usize
     at + k
 }
 
-// The last d digits of n: four are common, and take less time than the loop.
+// The last d digits of n. Four are common, and take less time without the loop.
 fn fill_after_point(out: &mut [u8], at: usize, n: u64, d: usize)
     requires { ⌜ at + d ≤ length (now out) ⌝ }
     ensures { λ _. ⌜ now (out .exit) ≡ putAt (now (out .entry)) at (lastDigits d n) ⌝ }
 {
     if d == 4 {
-        fill_four(out, at, n % 10000);
+        fill_four_digits(out, at, n % 10000);
     } else {
         fill_digits(out, at, n, d);
     }

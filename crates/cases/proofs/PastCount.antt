@@ -1,4 +1,4 @@
--- What refusals 3 and 4 leave of the lines of a case: at most four, and those past the count are zero. What a line of zeros breaks.
+-- What refusals 3 and 4 leave of the lines of a case: at most four, and those past the count are zero. A line of zeros breaks no rule.
 -- Assumes nothing.
 use Prim.Native.Nat.{ℕ, _≤_, _<_}
 use mathlib.Core.Bool.{Bool, true, false, not, _&&_, _||_, and-eq-true-iff, and-true, and-false}
@@ -11,12 +11,12 @@ use borrow.Author.Tests.{leb-true, le-leb, lt-ltb, le-ltb, eqb-true, not-false}
 use Rattle.numbers.specs.Lists.{any, every, Each}
 use Rattle.numbers.proofs.Tests.{and-right-false, or-false}
 use Rattle.numbers.proofs.Below.{any-false}
-use Rattle.numbers.proofs.Lists.{each, of-listed}
+use Rattle.numbers.proofs.Lists.{each, of-listed, none-every}
 use Rattle.calendar.specs.Dates.{isReal, isZero}
 use Rattle.cases.specs.Layout.{Amount, amount-discrete, amounts, additional, dependant, lump, modification, schemePaysLump}
 use Rattle.cases.specs.Entries.{line, anyLine, amountIn}
 use Rattle.cases.specs.Kinds.{rulesOf}
-use Rattle.cases.specs.Form.{kindFault, filled, tooLarge, anyFilled, lineFilled, reservedFilled, lineReservedFault, lineRangeFault, headReservedFault, reservedFault}
+use Rattle.cases.specs.Form.{kindFault, tooLarge, anyFilled, lineFilled, reservedFilled, lineReservedFault, lineRangeFault, headReservedFault, reservedFault}
 use Rattle.cases.proofs.Entries.{amount-listed}
 use Rattle.cases.proofs.RowsOfKinds.{four-lines}
 use Rattle.cases.specs.declared.Line.{Line}
@@ -39,12 +39,6 @@ zero-past c e i h p =
     or-false (leb (c .count) i && lineFilled l) (reservedFilled r i l)
     (any-false 4 (λ j. lineReservedFault r (c .count) j (line c j)) lines i h) in
     and-right-false (leb (c .count) i) (lineFilled l) (le-leb (c .count) i p) (tests .0)
-
--- a test that fails of no member holds of every one
-none-every : {A : Type 0} (t : A → Bool) (xs : List A) → any (λ x. not (t x)) xs ≡ false → every t xs ≡ true
-none-every t [] e = refl
-none-every t (x ∷ xs) e =
-    let b = or-false (not (t x)) (any (λ y. not (t y)) xs) e in rw (not-false (t x) (b .0)) (none-every t xs (b .1))
 
 -- each amount of a line of zeros is zero
 zero-amount : (l : Line) → lineFilled l ≡ false → (a : Amount) → amountIn a l ≡ 0

@@ -98,19 +98,16 @@ headRangeFault c =
 unfoldable pub rangeFault : Case → Bool
 rangeFault c = headRangeFault c || anyLine (lineRangeFault (rulesOf (c .kind)) (c .count)) c
 
--- refusals 3, 4 and 5, in their order, of a case beside which its block may hold a byte, named by no field, that is not zero
-abbrev pub formTests : Bool → Case → List Test
-formTests unnamed c =
-    (kindFault (c .kind) (c .count) gives Kind) ∷
-    (unnamed || reservedFault c gives Reserved) ∷
-    (rangeFault c gives Range) ∷ []
+-- refusals 3, 4 and 5, in their order, from whether each applies
+abbrev pub formTestsBy : Bool → Bool → Bool → List Test
+formTestsBy kind reserved range =
+    (kind gives Kind) ∷
+    (reserved gives Reserved) ∷
+    (range gives Range) ∷ []
 
--- For the code alone: the same of a case whose lines are looked at elsewhere, from what they break.
-abbrev pub formTestsBy : Bool → Case → Bool → Bool → List Test
-formTestsBy unnamed c reserved range =
-    (kindFault (c .kind) (c .count) gives Kind) ∷
-    (unnamed || (headReservedFault c || reserved) gives Reserved) ∷
-    (headRangeFault c || range gives Range) ∷ []
+-- those of a case beside which its block may hold a byte, named by no field, that is not zero
+abbrev pub formTests : Bool → Case → List Test
+formTests unnamed c = formTestsBy (kindFault (c .kind) (c .count)) (unnamed || reservedFault c) (rangeFault c)
 
 -- a case to which none of them applies
 abbrev pub WellFormed : Case → Type 0

@@ -1,5 +1,6 @@
 // Refusals 3, 4 and 5 of a case.
 ghost use mathlib.Core.Path.{_≡_};
+ghost use mathlib.Core.Bool.{_||_};
 ghost use Rattle.refusals.specs.Tests.{first, verdictNumber};
 ghost use Rattle.cases.specs.Form as form;
 use crate::Case;
@@ -75,10 +76,10 @@ fn head_range_fault(c: Case) -> bool
         | dates_range_fault(c)
 }
 
-// Refusals 3, 4 and 5 as form_verdict finds them, where it is known what the lines break: those of c are not looked at.
+// Refusals 3, 4 and 5 as form_verdict gives them, where it is known already what the lines break: those of c are not looked at.
 pub fn form_verdict_by(c: Case, unnamed: bool, lines: Faults) -> Verdict
-    ensures verdict { λ r. ⌜ r ≡ first (form.formTestsBy unnamed c (lines .reserved) (lines .range)) ⌝ }
-    ensures number { λ r. ⌜ verdictNumber r ≡ verdictNumber (first (form.formTestsBy unnamed c (lines .reserved) (lines .range))) ⌝ }
+    ensures verdict { λ r. ⌜ r ≡ first (form.formTestsBy (form.kindFault (c .kind) (c .count)) (unnamed || (form.headReservedFault c || lines .reserved)) (form.headRangeFault c || lines .range)) ⌝ }
+    ensures number { λ r. ⌜ verdictNumber r ≡ verdictNumber (first (form.formTestsBy (form.kindFault (c .kind) (c .count)) (unnamed || (form.headReservedFault c || lines .reserved)) (form.headRangeFault c || lines .range))) ⌝ }
 {
     let range = refuse_if(
         head_range_fault(c) | lines.range,

@@ -64,7 +64,7 @@ pub struct Rules {
     pub table: Table,
 }
 
-// Whether lines break a must-be-zero rule, and whether a range.
+// Whether lines break a must-be-zero rule, and whether they break a range.
 pub struct Faults {
     pub reserved: bool,
     pub range: bool,

@@ -83,7 +83,8 @@ fn line_filled(l: Line) -> bool
     !calendar::is_zero(l.date) | tests.filled
 }
 
-// What line i of a case with so many lines breaks. Past the count a line of zeros, as nearly every one is, is asked nothing else.
+// What line i of a case with `count` lines breaks. Past the count nearly every line is zeros and breaks nothing, so it is not tested
+// further.
 pub fn faults_of_line(rules: Rules, count: u8, i: u8, l: Line) -> Faults
     ensures { λ r. ⌜ (r .reserved ≡ lineReservedFault rules count i l) × (r .range ≡ lineRangeFault rules count i l) ⌝ }
 {

@@ -19,13 +19,16 @@ use Rattle.cases.specs.declared.Case.{Case}
 abbrev pub misplaced : Case → ℕ → Line → Bool
 misplaced c i l = leb 1 i && ltb i (c .count) && not (before (l .date) (line c 0 .date))
 
--- 6 dates: the member left before or on the day of birth, or after the guarantee date; where lines are dated, the first is dated
--- before the 65th birthday, or another not before the first
+-- where lines are dated, the first is dated before the 65th birthday, or another not before the first
+abbrev pub datedLinesFault : Case → Bool
+datedLinesFault c = rulesOf (c .kind) .dated && (before (line c 0 .date) (movedOn 65 (c .birth)) || anyLine (misplaced c) c)
+
+-- 6 dates: the member left before or on the day of birth, or after the guarantee date; or the dates of the lines are at fault
 abbrev pub datesFault : Case → Bool
 datesFault c =
     not (before (c .birth) (c .leaving)) ||
     before (c .guarantee) (c .leaving) ||
-    (rulesOf (c .kind) .dated && (before (line c 0 .date) (movedOn 65 (c .birth)) || anyLine (misplaced c) c))
+    datedLinesFault c
 
 -- a line after the second, within the count, that is not dated before the line that it follows
 abbrev pub outOfOrder : Case → ℕ → Line → Bool

@@ -1,12 +1,13 @@
 -- What a test over a list says of each member.
 -- Assumes nothing.
 use Prim.Native.Nat.{ℕ, zero, suc, _-_, _≤_, _<_}
-use mathlib.Core.Bool.{Bool, true, false, _||_, and-eq-true-iff, false≢true}
+use mathlib.Core.Bool.{Bool, true, false, not, _||_, and-eq-true-iff, false≢true}
 use mathlib.Core.List.{List, [], _∷_}
-use mathlib.Core.Path.{_≡_, sym, ap, _∙_}
+use mathlib.Core.Path.{_≡_, refl, sym, ap, _∙_}
 use native.Mathlib.Omega.{arith}
 use lib.ListN.{length, drop, getD}
 use lib.Seq.{drop-cons, drop-length}
+use borrow.Author.Tests.{not-false}
 use Rattle.numbers.specs.Lists.{any, every, Each}
 use Rattle.numbers.proofs.Tests.{or-false}
 
@@ -18,6 +19,12 @@ each (x ∷ xs) f = (f x, each xs f)
 pub each-not : {A : Type 0} {P : A → Type 0} (t : A → Bool) (xs : List A) → ((x : A) → t x ≡ false → P x) → any t xs ≡ false → Each xs P
 each-not t [] f e = tt
 each-not t (x ∷ xs) f e = let b = or-false (t x) (any t xs) e in (f x (b .0), each-not t xs f (b .1))
+
+-- a test that fails of no member holds of every one
+pub none-every : {A : Type 0} (t : A → Bool) (xs : List A) → any (λ x. not (t x)) xs ≡ false → every t xs ≡ true
+none-every t [] e = refl
+none-every t (x ∷ xs) e =
+    let b = or-false (not (t x)) (any (λ y. not (t y)) xs) e in rw (not-false (t x) (b .0)) (none-every t xs (b .1))
 
 -- whether x is a member of a list of what can be told apart
 abbrev orIf : {P : Type 0} → Dec P → Bool → Bool

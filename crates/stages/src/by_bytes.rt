@@ -4,7 +4,7 @@ ghost use Prim.Native.Nat.{_*_, _≤_};
 ghost use lib.ListN.{length};
 ghost use Rattle.blocks.specs.Block.{checksum, checksumOrZero};
 
-// What a byte adds at a position, counted from 1.
+// What a byte adds to the check, at a position counted from 1.
 fn byte_term(position: u32, x: u8) -> u32
     requires { ⌜ position ≤ 508 ⌝ }
     ensures { λ r. ⌜ (r ≡ position * x) × (r ≤ 129540) ⌝ }

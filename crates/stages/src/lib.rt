@@ -1,4 +1,5 @@
-// The stages of the way of a block, one function to a stage, for the benchmark to time: each does the work of those before it.
+// For the benchmark to time: the stages of the way of a block, one function to a stage, each doing the work of those before it; and
+// the check by bytes.
 mod by_bytes;
 
 ghost use mathlib.Core.Path.{_≡_};

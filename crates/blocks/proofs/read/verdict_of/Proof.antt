@@ -18,8 +18,8 @@ returns-2 c =
     let if1 = c .before .before .before .before .if1 in
     let checksum = c .before .before .before .checksum in
     let u32-at = c .before .before .u32-at in
-    let form-of = c .before .form-of in
-    rw (c .refuse-if .ensures .0, checksum .ensures, u32-at .ensures, form-of .ensures, eq-eqb (length (now (args .b))) 512 (if1 .left))
+    let form-verdict-of = c .before .form-verdict-of in
+    rw (c .refuse-if .ensures .0, checksum .ensures, u32-at .ensures, form-verdict-of .ensures, eq-eqb (length (now (args .b))) 512 (if1 .left))
 
 pub verdict-of-spec : {M : Type 1} → statement M
 verdict-of-spec =

@@ -14,9 +14,9 @@ use Rattle.buffers.proofs.digits.fill_after_point.Tie as tie
 returns : tie.Need-returns
 returns c =
     let args = c .before .before .before .before .before .before .args in
-    let fill-four = c .before .before .fill-four in
+    let fill-four-digits = c .before .before .fill-four-digits in
     let four : args .d ≡ 4 = omega arith in
-    fill-four .ensures ∙ ap (putAt (now (args .out)) (args .at)) (digits-rest 4 (args .n) ∙ ap (λ (k : ℕ). lastDigits k (args .n)) (sym four))
+    fill-four-digits .ensures ∙ ap (putAt (now (args .out)) (args .at)) (digits-rest 4 (args .n) ∙ ap (λ (k : ℕ). lastDigits k (args .n)) (sym four))
 
 pub fill-after-point-spec : {M : Type 1} → statement M
 fill-after-point-spec =

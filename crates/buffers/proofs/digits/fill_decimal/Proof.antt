@@ -27,8 +27,8 @@ sub-end c =
     let loop = c .before .loop in
     omega (arith, decimal-fewer 4 (loop .rest) (search needs))
 
-fill-four-requires : tie.Need-fill-four-requires Inv-loop μ-loop
-fill-four-requires c κs =
+fill-four-digits-requires : tie.Need-fill-four-digits-requires Inv-loop μ-loop
+fill-four-digits-requires c κs =
     let loop = c .before .before .loop in
     (search needs, omega (arith, decimal-fewer 4 (loop .rest) (search needs)))
 
@@ -36,26 +36,26 @@ loop-again : tie.Need-loop-again Inv-loop μ-loop
 loop-again c =
     let args = c .before .before .before .before .before .before .before .args in
     let loop = c .before .before .before .before .before .loop in
-    let fill-four = c .before .before .fill-four in
+    let fill-four-digits = c .before .before .fill-four-digits in
     let out = c .before .out in
     let fewer = decimal-fewer 4 (loop .rest) (search needs) in (
       omega arith,
       omega arith,
       omega (arith, out .given),
-      ap (λ (b : List ℕ). putAt b (args .at) (decimal (loop .rest / 10000))) (fill-four .ensures)
+      ap (λ (b : List ℕ). putAt b (args .at) (decimal (loop .rest / 10000))) (fill-four-digits .ensures)
           ∙ put-last-of (loop .out) (args .at) 4 (loop .rest) (search needs) (loop .inv .0) (omega arith) ∙ loop .inv .3,
     )
 
 returns : tie.Need-returns Inv-loop μ-loop
 returns c =
     let loop = c .before .before .before .before .before .loop in
-    let fill-up-to-four = c .before .before .fill-up-to-four in
-    fill-up-to-four .ensures ∙ loop .inv .3
+    let fill-up-to-four-digits = c .before .before .fill-up-to-four-digits in
+    fill-up-to-four-digits .ensures ∙ loop .inv .3
 
 pub fill-decimal-spec : {M : Type 1} → statement M
 fill-decimal-spec =
     tie.close
     (tie.spec
     Inv-loop μ-loop (λ c. search needs) loop-holds
-    sub-end fill-four-requires (λ c. search needs) loop-again
+    sub-end fill-four-digits-requires (λ c. search needs) loop-again
     (λ c κs. search needs) (λ c. search needs) returns)

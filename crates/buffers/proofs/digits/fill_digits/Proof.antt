@@ -27,12 +27,12 @@ loop-again : tie.Need-loop-again Inv-loop μ-loop
 loop-again c =
     let args = c .before .before .before .before .before .before .before .args in
     let loop = c .before .before .before .before .before .loop in
-    let fill-two = c .before .before .fill-two in
+    let fill-two-digits = c .before .before .fill-two-digits in
     let out = c .before .out in
     let two : loop .i - 2 + 2 ≡ loop .i = omega arith in (
       search needs,
       omega (arith, out .given),
-      ap (λ (b : List ℕ). putAt b (args .at) (lastDigits (loop .i - 2) (loop .rest / 100))) (fill-two .ensures)
+      ap (λ (b : List ℕ). putAt b (args .at) (lastDigits (loop .i - 2) (loop .rest / 100))) (fill-two-digits .ensures)
           ∙ put-last (loop .out) (args .at) (loop .i - 2) 2 (loop .rest) (omega arith)
           ∙ ap (λ (k : ℕ). putAt (loop .out) (args .at) (lastDigits k (loop .rest))) two ∙ loop .inv .2,
     )

@@ -1,6 +1,6 @@
 -- `put_fixed_point` meets its contract.
 -- Assumes nothing.
-use Prim.Native.Nat.{ℕ, _+_, _≤_}
+use Prim.Native.Nat.{ℕ, _+_}
 use mathlib.Core.Path.{_≡_}
 use native.Mathlib.Omega.{arith}
 use denote.Ref.{now}

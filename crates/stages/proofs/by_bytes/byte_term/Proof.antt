@@ -3,7 +3,6 @@
 use native.Mathlib.Omega.{arith}
 use native.Mathlib.Nat.{mul-le-mul}
 use mathlib.Core.Path.{refl}
-use borrow.Author.Needs.{needs}
 use Rattle.stages.proofs.by_bytes.byte_term.Statement.{statement}
 use Rattle.stages.proofs.by_bytes.byte_term.Tie as tie
 

@@ -1,9 +1,9 @@
--- `dated_fault` meets its contract.
+-- `dated_lines_fault` meets its contract.
 -- Assumes nothing.
 use Rattle.cases.specs.Entries.{lineBy}
 use borrow.Author.Needs.{needs}
-use Rattle.entitlement.proofs.dates.dated_fault.Statement.{statement}
-use Rattle.entitlement.proofs.dates.dated_fault.Tie as tie
+use Rattle.entitlement.proofs.dates.dated_lines_fault.Statement.{statement}
+use Rattle.entitlement.proofs.dates.dated_lines_fault.Tie as tie
 
 returns : tie.Need-returns
 unfolding lineBy
@@ -18,8 +18,8 @@ returns-2 c =
     let rules-of = c .before .before .rules-of in
     rw (← rules-of .ensures, c .if1 .left)
 
-pub dated-fault-spec : {M : Type 1} → statement M
-dated-fault-spec =
+pub dated-lines-fault-spec : {M : Type 1} → statement M
+dated-lines-fault-spec =
     tie.close
     (tie.spec
     (λ c κs. search needs) (λ c. search needs) (λ c κs. search needs) (λ c κs. search needs)

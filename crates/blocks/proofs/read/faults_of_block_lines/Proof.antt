@@ -1,4 +1,4 @@
--- `faults_of_lines` meets its contract.
+-- `faults_of_block_lines` meets its contract.
 -- Assumes nothing.
 use Prim.Native.Nat.{_-_, _≤_}
 use mathlib.Core.Path.{_≡_}
@@ -11,8 +11,8 @@ use Rattle.cases.specs.Entries.{lineBy, caseBy}
 use Rattle.cases.specs.Kinds.{rulesOf}
 use Rattle.cases.specs.Form.{lineReservedFault, lineRangeFault}
 use Rattle.blocks.specs.Block.{fieldOf, caseOf}
-use Rattle.blocks.proofs.read.faults_of_lines.Statement.{statement}
-use Rattle.blocks.proofs.read.faults_of_lines.Tie as tie
+use Rattle.blocks.proofs.read.faults_of_block_lines.Statement.{statement}
+use Rattle.blocks.proofs.read.faults_of_block_lines.Tie as tie
 
 abbrev Inv-loop : tie.InvT-loop
 Inv-loop b kind count rules reserved₀ range₀ i₀ reserved range i =
@@ -46,8 +46,8 @@ returns c =
     let e : c .before .loop .i ≡ 4 = omega arith in
     (rw e at (inv .2), rw e at (inv .3))
 
-pub faults-of-lines-spec : {M : Type 1} → statement M
-faults-of-lines-spec =
+pub faults-of-block-lines-spec : {M : Type 1} → statement M
+faults-of-block-lines-spec =
     tie.close
     (tie.spec
     Inv-loop

@@ -1,4 +1,4 @@
--- `form_of` meets its contract.
+-- `form_verdict_of` meets its contract.
 -- Assumes nothing.
 use mathlib.Core.Path.{ap}
 use denote.Ref.{now}
@@ -6,22 +6,22 @@ use Rattle.refusals.specs.Tests.{first}
 use Rattle.blocks.specs.Block.{unnamedFault}
 use Rattle.blocks.proofs.Order.{by-head}
 use borrow.Author.Needs.{needs}
-use Rattle.blocks.proofs.read.form_of.Statement.{statement}
-use Rattle.blocks.proofs.read.form_of.Tie as tie
+use Rattle.blocks.proofs.read.form_verdict_of.Statement.{statement}
+use Rattle.blocks.proofs.read.form_verdict_of.Tie as tie
 
 returns : tie.Need-returns
 returns c =
     let args = c .before .before .before .before .before .before .before .args in
     let zero-case = c .before .before .before .before .before .zero-case in
     let case-with = c .before .before .before .case-with in
-    let faults-of-lines = c .before .before .faults-of-lines in
+    let faults-of-block-lines = c .before .before .faults-of-block-lines in
     let unnamed-fault = c .before .unnamed-fault in
     let s = now (args .b) in
-    rw (c .form-verdict-by .ensures .0, unnamed-fault .ensures, faults-of-lines .ensures .0, faults-of-lines .ensures .1, case-with .ensures)
+    rw (c .form-verdict-by .ensures .0, unnamed-fault .ensures, faults-of-block-lines .ensures .0, faults-of-block-lines .ensures .1, case-with .ensures)
     (ap first (by-head s (unnamedFault s) (zero-case .result .lines)))
 
-pub form-of-spec : {M : Type 1} → statement M
-form-of-spec =
+pub form-verdict-of-spec : {M : Type 1} → statement M
+form-verdict-of-spec =
     tie.close
     (tie.spec
     (λ c κs. search needs) (λ c κs. search needs) (λ c κs. search needs) (λ c κs. search needs)
