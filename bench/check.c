@@ -1,4 +1,4 @@
-/* The check of the same 100,000 blocks taken by bytes and by words. By bytes
+/* The check of 100,000 blocks, a byte at a time and a word at a time. By bytes
  * is stages_check_by_bytes, the sum as it is defined, kept for this comparison
  * alone; by words is stages_check, the one that reading goes by. The time is
  * the processor's, the best of the rounds, in which the two take turns. Where
