@@ -29,7 +29,8 @@ fn widened(x: u8) -> u32
     x as u32
 }
 
-// The word at an index. It does not test the length: with that test the compiler would take one word at a time, not four.
+// The word at an index. It does not test the length: with that test the compiler would take one word at a time, not four, wherever
+// it does not know how long b is.
 fn word_at(b: &[u8], at: usize) -> u32
     requires { ⌜ at + 4 ≤ length (now b) ⌝ }
     ensures { λ r. ⌜ r ≡ numberAt 4 (now (b .entry)) at ⌝ }
