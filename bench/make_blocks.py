@@ -2,7 +2,7 @@
 """Writes a case file of N blocks to standard output, the same for the same N: cases of both kinds with one to four
 lines, about one in eight of them refused, one in twenty-five dated around 29 February, one in twenty-five with a
 guaranteed minimum pension and dated around pension age, one in fifty with a line dated within a day of the
-one above it, and one in twenty with a transfer in.
+one above it, one in twenty with a transfer in, and one in twenty with divorce debits.
 
     make_blocks.py N
 """
@@ -54,6 +54,40 @@ def around_order(i, b, count):
         b[20:24] = date(2021, 1, 1)
 
 
+def divorce_debits(i, b, kind, count):
+    """Divorce debits of part of the benefits, on one of them alone or on all; of the whole benefits, and a penny less or
+    more; above the benefits, and beside Scheme Pays or a modification above them; at the upper limit and a penny above
+    it; and a penny where no debit may be. One in five is revalued by 1.5000, which gives halves."""
+    n = i // 50
+    case, t = n % 17, n // 68  # 4 * 17, so that a round takes every case with every count of lines
+    places = [(k, j) for k in range(count) for j in range(3 if kind == 1 else 2)]
+    others = [(k, j) for k in range(4) for j in range(3) if (k, j) not in places]
+    benefits = {(k, j): struct.unpack_from("<Q", b, 64 + 72 * k + (8, 24, 40)[j])[0] for k, j in places}
+    debits = {(k, j): x * (5 + (7 * n + 11 * k + 17 * j) % 50) // 100 for (k, j), x in benefits.items()}
+    if n % 5 == 4:
+        struct.pack_into("<I", b, 32, 15000)
+    if case < 5:
+        place = places[t % len(places)]
+        debits = {place: debits[place]}
+    elif case in (12, 13, 14):
+        debits = benefits
+        debits[places[-1]] += (0, -1, 1)[case - 12]
+        for k in range(count):
+            b[112 + 72 * k:136 + 72 * k] = bytes(24)  # modification and Scheme Pays
+    elif case == 15 and t % 3 == 0:
+        debits = benefits
+    elif case == 15 and t % 3 == 1:
+        debits = {place: 2 * x for place, x in benefits.items()}
+    elif case == 15:
+        struct.pack_into("<Q", b, 112 if kind == 1 and t % 2 == 0 else 120, 1_000_000_000)
+    elif case == 16 and t % 2 == 0:
+        debits[places[t // 4 % len(places)]] = 1_000_000_000 + t // 2 % 2
+    elif case == 16:
+        debits[others[t // 2 % len(others)]] = 1
+    for (k, j), x in debits.items():
+        struct.pack_into("<Q", b, 352 + 24 * k + 8 * j, x)
+
+
 def block(i):
     b = bytearray(512)
     kind = 1 + i % 2
@@ -82,9 +116,11 @@ def block(i):
     if i % 20 == 3:
         b[10] = 1
         struct.pack_into("<QQ", b, 48, i * 97 % 20_000_000, i * 31 % 5_000_000)
+    if i % 50 in (12, 25) or i % 100 == 63:  # those at 63 have a transfer in
+        divorce_debits(i, b, kind, count)
     if i % 10 == 9:
         b[8] = 1 + i // 10 % 5
-    struct.pack_into("<I", b, 508, sum((p + 1) * x for p, x in enumerate(b[:352])))
+    struct.pack_into("<I", b, 508, sum((p + 1) * x for p, x in enumerate(b[:448])))
     return bytes(b)
 
 

@@ -32,7 +32,8 @@ static const uint16_t scheme_2015[50][2] = {
 struct date { unsigned year, month, day; };
 struct line {
     struct date date;
-    uint64_t pension, additional, survivor, dependant, lump, modification, debit, lump_debit;
+    uint64_t pension, additional, survivor, dependant, lump, modification, scheme_pays, scheme_pays_lump;
+    uint64_t debit_pension, debit_survivor, debit_lump;
 };
 struct record {
     unsigned kind, status, receiver, flags, count, service;
@@ -44,7 +45,7 @@ struct record {
 struct items { uint64_t payment, pension, lump, survivor, deduction, underpin, avc; };
 
 static const char *const names[18] = {"", "length", "check", "kind", "reserved", "range", "dates", "status",
-    "receiver", "service", "refer", "age", "factor", "debit", "negative", "buffer", "", "order"};
+    "receiver", "service", "refer", "age", "factor", "debit", "negative", "buffer", "award", "order"};
 
 static uint16_t u16(const uint8_t *b) { uint16_t x; memcpy(&x, b, 2); return x; }
 static uint32_t u32(const uint8_t *b) { uint32_t x; memcpy(&x, b, 4); return x; }
@@ -97,7 +98,8 @@ static int nonzero(const uint8_t *b, size_t from, size_t n)
 
 static int line_is_zero(const struct line *l)
 {
-    return is_zero(l->date) && !(l->pension | l->additional | l->survivor | l->dependant | l->lump | l->modification | l->debit | l->lump_debit);
+    return is_zero(l->date) && !(l->pension | l->additional | l->survivor | l->dependant | l->lump | l->modification | l->scheme_pays | l->scheme_pays_lump
+        | l->debit_pension | l->debit_survivor | l->debit_lump);
 }
 
 static int read_block(const uint8_t *b, size_t n, struct record *c)
@@ -115,12 +117,13 @@ static int read_block(const uint8_t *b, size_t n, struct record *c)
     c->revaluation = u32(b + 32);
     c->avc = u64(b + 40); c->transfer = u64(b + 48); c->contributions = u64(b + 56);
     for (int k = 0; k < 4; k++) {
-        const uint8_t *p = b + 64 + 72 * k;
-        c->lines[k] = (struct line){date_at(p), u64(p + 8), u64(p + 16), u64(p + 24), u64(p + 32), u64(p + 40), u64(p + 48), u64(p + 56), u64(p + 64)};
+        const uint8_t *p = b + 64 + 72 * k, *q = b + 352 + 24 * k;
+        c->lines[k] = (struct line){date_at(p), u64(p + 8), u64(p + 16), u64(p + 24), u64(p + 32), u64(p + 40), u64(p + 48), u64(p + 56), u64(p + 64),
+            u64(q), u64(q + 8), u64(q + 16)};
     }
     if (c->kind == 1 ? c->count != 1 : c->kind == 2 ? c->count < 1 || c->count > 4 : 1)
         return 3;
-    if (nonzero(b, 2, 2) || nonzero(b, 14, 2) || nonzero(b, 36, 4) || nonzero(b, 68, 4) || nonzero(b, 140, 4) || nonzero(b, 212, 4) || nonzero(b, 284, 4) || nonzero(b, 352, 156))
+    if (nonzero(b, 2, 2) || nonzero(b, 14, 2) || nonzero(b, 36, 4) || nonzero(b, 68, 4) || nonzero(b, 140, 4) || nonzero(b, 212, 4) || nonzero(b, 284, 4) || nonzero(b, 448, 60))
         return 4;
     int gmp = c->flags >> 1 & 1, transferred = c->flags & 1;
     if (c->flags >> 2 || (!gmp && !is_zero(c->state_pension)) || (!transferred && c->transfer) || (c->kind == 1 && (transferred || c->contributions)))
@@ -131,7 +134,7 @@ static int read_block(const uint8_t *b, size_t n, struct record *c)
             return 4;
         if (c->kind == 1 && !is_zero(l->date))
             return 4;
-        if (c->kind == 2 && (l->lump | l->modification | l->lump_debit))
+        if (c->kind == 2 && (l->lump | l->modification | l->scheme_pays_lump | l->debit_lump))
             return 4;
         if (k >= 1 && (l->additional | l->dependant))
             return 4;
@@ -144,7 +147,8 @@ static int read_block(const uint8_t *b, size_t n, struct record *c)
         return 5;
     for (unsigned k = 0; k < c->count; k++) {
         const struct line *l = &c->lines[k];
-        if (l->pension > MOST || l->additional > MOST || l->survivor > MOST || l->dependant > MOST || l->lump > MOST || l->modification > MOST || l->debit > MOST || l->lump_debit > MOST)
+        if (l->pension > MOST || l->additional > MOST || l->survivor > MOST || l->dependant > MOST || l->lump > MOST || l->modification > MOST || l->scheme_pays > MOST || l->scheme_pays_lump > MOST
+            || l->debit_pension > MOST || l->debit_survivor > MOST || l->debit_lump > MOST)
             return 5;
         if (c->kind == 2 && !is_real(l->date))
             return 5;
@@ -194,7 +198,7 @@ static int value(const struct record *c, struct items *m)
             if (years_ahead(c->guarantee, c->lines[k].date) > 50)
                 return 12;
     }
-    uint64_t pension = 0, lump = 0, survivor = 0, deduction = 0;
+    uint64_t pension = 0, lump = 0, survivor = 0, deduction = 0, debit = 0;
     for (unsigned k = 0; k < c->count; k++) {
         const struct line *l = &c->lines[k];
         uint64_t a, b = 0, s, e = 0;
@@ -206,16 +210,20 @@ static int value(const struct record *c, struct items *m)
             a = row[0]; s = row[1];
         }
         uint64_t p = revalued(l->pension + l->additional, c->revaluation), q = revalued(l->lump, c->revaluation);
-        if (p < l->debit || q < l->lump_debit)
+        if (p < l->scheme_pays || q < l->scheme_pays_lump)
             return 13;
-        pension += (p - l->debit) * a;
-        lump += (q - l->lump_debit) * b;
+        pension += (p - l->scheme_pays) * a;
+        lump += (q - l->scheme_pays_lump) * b;
         survivor += revalued(l->survivor + l->dependant, c->revaluation) * s;
         deduction += l->modification * e;
+        debit += revalued(l->debit_pension, c->revaluation) * a + revalued(l->debit_survivor, c->revaluation) * s + revalued(l->debit_lump, c->revaluation) * b;
     }
     if (pension + lump + survivor < deduction)
         return 14;
-    uint64_t gross = (pension + lump + survivor - deduction + 50) / 100;
+    uint64_t first_value = (pension + lump + survivor - deduction + 50) / 100, debit_value = (debit + 50) / 100;
+    if (debit_value > first_value)
+        return 16;
+    uint64_t gross = first_value - debit_value;
     uint64_t underpin = c->flags & 1 ? c->transfer + c->contributions : 0;
     uint64_t paid = gross > underpin ? gross : underpin;
     *m = (struct items){paid + c->avc, pension, lump, survivor, deduction, underpin, c->avc};

@@ -26,13 +26,26 @@
  *       64     72  line 1, and at 136, 208 and 280 lines 2 to 4:
  *                    0 pension date, 8 pension, 16 additional pension,
  *                    24 survivor's pension, 32 dependant's additional pension,
- *                    40 lump sum, 48 insurance modification, 56 pension debit,
- *                    64 lump sum debit, 8 bytes each but the date
+ *                    40 lump sum, 48 insurance modification, 56 Scheme Pays
+ *                    debit on the pension, 64 that on the lump sum, 8 bytes
+ *                    each but the date
+ *      352     24  divorce debit of line 1, and at 376, 400 and 424 those of
+ *                  lines 2 to 4:
+ *                    0 debit pension, 8 debit survivor's pension, 16 debit lump
+ *                    sum, 8 bytes each
  *      508      4  check: each of the 508 bytes before it, times its position
  *                  counted from 1, summed
  *
- * Amounts go to 1,000,000,000 pence. Every byte that no field names is zero.
- * In kind 2 each line has an earlier date than the line before it.
+ * Amounts go to 1,000,000,000 pence. Benefits and divorce debits are as at
+ * leaving, modification and Scheme Pays as at the guarantee date. The benefits
+ * are those before the divorce debit; a debit pension is of the pension and the
+ * additional pension together, and a debit survivor's pension likewise.
+ *
+ * Zero are: every byte that no field names; lines past the count, and their
+ * divorce debits; both additional amounts of lines 2 to 4; in kind 1 flag 1, the
+ * date of the line and own contributions; in kind 2 the modification, the lump
+ * sum and both debits on it. In kind 2 each line has an earlier date than the
+ * line before it.
  */
 #ifndef CETV_H
 #define CETV_H
@@ -51,7 +64,7 @@ extern "C" {
 
 /* The refusals, by the number that a line gives, with their names there. The
  * first that applies is given, in this order: 15, 1 to 6, 17, 7 to 9, 11, 10,
- * 12 to 14. */
+ * 12 to 14, 16. */
 enum cetv_refusal {
     CETV_LENGTH = 1,    /* length: the block is not 512 bytes */
     CETV_CHECK = 2,     /* check: the check differs */
@@ -65,9 +78,10 @@ enum cetv_refusal {
     CETV_REFER = 10,    /* refer: GMP, state pension date before 6 April 2016 */
     CETV_AGE = 11,      /* age: pension age reached */
     CETV_FACTOR = 12,   /* factor: the tables have no row */
-    CETV_DEBIT = 13,    /* debit: above the revalued amount it reduces */
-    CETV_NEGATIVE = 14, /* negative: the total is below zero */
+    CETV_DEBIT = 13,    /* debit: Scheme Pays above the revalued amount */
+    CETV_NEGATIVE = 14, /* negative: the total is below zero, divorce debit apart */
     CETV_BUFFER = 15,   /* buffer: fewer than 256 bytes lent (the answer is 0) */
+    CETV_AWARD = 16,    /* award: divorce debit worth more than that total */
     CETV_ORDER = 17     /* order: the dates of lines 2 to 4 do not strictly fall */
 };
 
@@ -86,7 +100,8 @@ enum cetv_refusal {
  *   PLACE CASE refused NUMBER NAME\n
  *
  * with P, U and V in pounds with two decimals, A to D in pounds with four, and
- * CASE 0 where the block itself could not be read (refusals 1 to 5).
+ * CASE 0 where the block itself could not be read (refusals 1 to 5). A to D are
+ * those before a divorce debit, which has no item of its own and shows in P.
  *
  * A length of 0 with any pointer, NULL too, is an empty block or buffer. With
  * any other length the pointer must be good for so many bytes: block for

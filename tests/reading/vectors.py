@@ -25,7 +25,7 @@ LIMIT = 1_000_000_000  # the largest amount, in pence
 # ---------------------------------------------------------------------------
 # The model: a block is decoded and judged in the order of the five refusals.
 
-LAYOUT = "<H2x I 4B H2x" + "HBB" * 4 + "I4x 3Q" + "HBB4x8Q" * 4 + "156x I"
+LAYOUT = "<H2x I 4B H2x" + "HBB" * 4 + "I4x 3Q" + "HBB4x8Q" * 4 + "3Q" * 4 + "60x I"
 assert struct.calcsize(LAYOUT) == BLOCK
 
 
@@ -43,7 +43,7 @@ def decoded(block):
     for _ in range(4):
         values.append(date())
         values += some(8)
-    return values
+    return values + some(12)
 
 
 def weighted_sum(block):
@@ -52,7 +52,7 @@ def weighted_sum(block):
 
 def reserved_positions(kind, flags, count):
     """Positions of the bytes that must be zero; flag bits are judged apart."""
-    unnamed = [(2, 4), (14, 16), (36, 40), (352, 508)]
+    unnamed = [(2, 4), (14, 16), (36, 40), (448, 508)]
     unnamed += [(start + 4, start + 8) for start in (64, 136, 208, 280)]
     spans = list(unnamed)
     if not flags & 2:
@@ -64,12 +64,15 @@ def reserved_positions(kind, flags, count):
         spans.append((64, 68))  # the line's date
     for line in (1, 2, 3, 4):
         start = 64 + 72 * (line - 1)
+        divorce = 352 + 24 * (line - 1)
         if line > count:
             spans.append((start, start + 72))
+            spans.append((divorce, divorce + 24))
         if kind == 2:
             spans.append((start + 40, start + 48))  # lump sum
             spans.append((start + 48, start + 56))  # modification
-            spans.append((start + 64, start + 72))  # lump sum debit
+            spans.append((start + 64, start + 72))  # Scheme Pays lump sum
+            spans.append((divorce + 16, divorce + 24))  # debit lump sum
         if line > 1:
             spans.append((start + 16, start + 24))  # additional pension
             spans.append((start + 32, start + 40))  # dependant's additional
@@ -87,7 +90,7 @@ def real_day(date):
 def in_range(values):
     kind, number, status, receiver, flags, count, _months = values[:7]
     birth, leaving, guarantee, state_pension, revaluation = values[7:12]
-    amounts = list(values[12:15])
+    amounts = list(values[12:15] + values[51:])
     dates = [birth, leaving, guarantee]
     if flags & 2:
         dates.append(state_pension)
@@ -161,13 +164,21 @@ LINE_FIELDS = {
     "dependant's additional": (32, 8),
     "lump sum": (40, 8),
     "modification": (48, 8),
-    "pension debit": (56, 8),
-    "lump sum debit": (64, 8),
+    "Scheme Pays": (56, 8),
+    "Scheme Pays lump sum": (64, 8),
 }
 LINE_STARTS = {1: 64, 2: 136, 3: 208, 4: 280}
-for _line, _start in LINE_STARTS.items():
-    for _name, (_offset, _size) in LINE_FIELDS.items():
-        FIELDS[f"line {_line} {_name}"] = (_start + _offset, _size)
+# The divorce debits stand after the four lines.
+DIVORCE_FIELDS = {
+    "debit pension": (0, 8),
+    "debit survivor": (8, 8),
+    "debit lump sum": (16, 8),
+}
+DIVORCE_STARTS = {1: 352, 2: 376, 3: 400, 4: 424}
+for _starts, _fields in ((LINE_STARTS, LINE_FIELDS), (DIVORCE_STARTS, DIVORCE_FIELDS)):
+    for _line, _start in _starts.items():
+        for _name, (_offset, _size) in _fields.items():
+            FIELDS[f"line {_line} {_name}"] = (_start + _offset, _size)
 
 NO_DATE = (0, 0, 0)
 EMPTY = {name: NO_DATE if size == DATE else 0 for name, (_, size) in FIELDS.items()}
@@ -284,8 +295,11 @@ KIND_1 = EMPTY | {
     "line 1 dependant's additional": 633308087,
     "line 1 lump sum": 466071267,
     "line 1 modification": 194159601,
-    "line 1 pension debit": 161579137,
-    "line 1 lump sum debit": 332444340,
+    "line 1 Scheme Pays": 161579137,
+    "line 1 Scheme Pays lump sum": 332444340,
+    "line 1 debit pension": 764454088,
+    "line 1 debit survivor": 565355461,
+    "line 1 debit lump sum": 818591378,
 }
 KIND_1_TEXT = """
     1 4275878552 4 3 2 1 51383 1951-12-30 2011-4-9 2019-11-28 2015-7-21 99991
@@ -294,6 +308,7 @@ KIND_1_TEXT = """
     0-0-0 0 0 0 0 0 0 0 0
     0-0-0 0 0 0 0 0 0 0 0
     0-0-0 0 0 0 0 0 0 0 0
+    764454088 565355461 818591378 0 0 0 0 0 0 0 0 0
 """
 KIND_1_NO_GMP = KIND_1 | {"flags": 0, "state pension date": NO_DATE}
 
@@ -318,19 +333,27 @@ KIND_2 = EMPTY | {
     "line 1 additional pension": 349884155,
     "line 1 survivor": 768651259,
     "line 1 dependant's additional": 531467969,
-    "line 1 pension debit": 47966084,
+    "line 1 Scheme Pays": 47966084,
     "line 2 date": (2045, 1, 6),
     "line 2 pension": 619437536,
     "line 2 survivor": 646116235,
-    "line 2 pension debit": 783200926,
+    "line 2 Scheme Pays": 783200926,
     "line 3 date": (2044, 2, 18),
     "line 3 pension": 834598616,
     "line 3 survivor": 567984374,
-    "line 3 pension debit": 132041609,
+    "line 3 Scheme Pays": 132041609,
     "line 4 date": (2042, 9, 11),
     "line 4 pension": 479704535,
     "line 4 survivor": 568108503,
-    "line 4 pension debit": 311939025,
+    "line 4 Scheme Pays": 311939025,
+    "line 1 debit pension": 636144558,
+    "line 1 debit survivor": 198154894,
+    "line 2 debit pension": 233828494,
+    "line 2 debit survivor": 971870148,
+    "line 3 debit pension": 969576905,
+    "line 3 debit survivor": 936748248,
+    "line 4 debit pension": 798744245,
+    "line 4 debit survivor": 932303552,
 }
 KIND_2_HEAD = "2 4260141991 1 2 3"
 KIND_2_MIDDLE = """
@@ -344,6 +367,18 @@ KIND_2_LINES = [
     " 2042-9-11 479704535 0 568108503 0 0 0 311939025 0",
 ]
 NO_LINE_TEXT = " 0-0-0 0 0 0 0 0 0 0 0"
+KIND_2_DIVORCE = [
+    " 636144558 198154894 0",
+    " 233828494 971870148 0",
+    " 969576905 936748248 0",
+    " 798744245 932303552 0",
+]
+NO_DIVORCE_TEXT = " 0 0 0"
+
+
+def without_divorce(base):
+    """The case with no divorce debits."""
+    return base | {f"line {line} {name}": 0 for line in DIVORCE_STARTS for name in DIVORCE_FIELDS}
 
 
 def kind_2_of(count):
@@ -386,6 +421,7 @@ EXAMPLE_A_TEXT = """
     0-0-0 0 0 0 0 0 0 0 0
     0-0-0 0 0 0 0 0 0 0 0
     0-0-0 0 0 0 0 0 0 0 0
+    0 0 0 0 0 0 0 0 0 0 0 0
 """
 
 # 003, Example B, with the date of leaving that its data give.
@@ -410,6 +446,7 @@ EXAMPLE_B_TEXT = """
     0-0-0 0 0 0 0 0 0 0 0
     0-0-0 0 0 0 0 0 0 0 0
     0-0-0 0 0 0 0 0 0 0 0
+    0 0 0 0 0 0 0 0 0 0 0 0
 """
 
 CASES = {"kind 1": KIND_1, "kind 2": KIND_2}
@@ -423,8 +460,11 @@ AMOUNTS = [
     ("kind 1", KIND_1, "line 1 dependant's additional"),
     ("kind 1", KIND_1, "line 1 lump sum"),
     ("kind 1", KIND_1, "line 1 modification"),
-    ("kind 1", KIND_1, "line 1 pension debit"),
-    ("kind 1", KIND_1, "line 1 lump sum debit"),
+    ("kind 1", KIND_1, "line 1 Scheme Pays"),
+    ("kind 1", KIND_1, "line 1 Scheme Pays lump sum"),
+    ("kind 1", KIND_1, "line 1 debit pension"),
+    ("kind 1", KIND_1, "line 1 debit survivor"),
+    ("kind 1", KIND_1, "line 1 debit lump sum"),
     ("kind 2", KIND_2, "AVC"),
     ("kind 2", KIND_2, "transfer-in"),
     ("kind 2", KIND_2, "own contributions"),
@@ -432,16 +472,24 @@ AMOUNTS = [
     ("kind 2", KIND_2, "line 1 additional pension"),
     ("kind 2", KIND_2, "line 1 survivor"),
     ("kind 2", KIND_2, "line 1 dependant's additional"),
-    ("kind 2", KIND_2, "line 1 pension debit"),
+    ("kind 2", KIND_2, "line 1 Scheme Pays"),
     ("kind 2", KIND_2, "line 2 pension"),
     ("kind 2", KIND_2, "line 2 survivor"),
-    ("kind 2", KIND_2, "line 2 pension debit"),
+    ("kind 2", KIND_2, "line 2 Scheme Pays"),
     ("kind 2", KIND_2, "line 3 pension"),
     ("kind 2", KIND_2, "line 3 survivor"),
-    ("kind 2", KIND_2, "line 3 pension debit"),
+    ("kind 2", KIND_2, "line 3 Scheme Pays"),
     ("kind 2", KIND_2, "line 4 pension"),
     ("kind 2", KIND_2, "line 4 survivor"),
-    ("kind 2", KIND_2, "line 4 pension debit"),
+    ("kind 2", KIND_2, "line 4 Scheme Pays"),
+    ("kind 2", KIND_2, "line 1 debit pension"),
+    ("kind 2", KIND_2, "line 1 debit survivor"),
+    ("kind 2", KIND_2, "line 2 debit pension"),
+    ("kind 2", KIND_2, "line 2 debit survivor"),
+    ("kind 2", KIND_2, "line 3 debit pension"),
+    ("kind 2", KIND_2, "line 3 debit survivor"),
+    ("kind 2", KIND_2, "line 4 debit pension"),
+    ("kind 2", KIND_2, "line 4 debit survivor"),
 ]
 
 # Dates that must be real days, each with a case that holds it.
@@ -467,7 +515,8 @@ def accepted():
     vector("kind 1", READ, KIND_1, text=KIND_1_TEXT)
     for count in (1, 2, 3, 4):
         lines = KIND_2_LINES[:count] + [NO_LINE_TEXT] * (4 - count)
-        text = f"{KIND_2_HEAD} {count} {KIND_2_MIDDLE}" + "".join(lines)
+        divorce = KIND_2_DIVORCE[:count] + [NO_DIVORCE_TEXT] * (4 - count)
+        text = f"{KIND_2_HEAD} {count} {KIND_2_MIDDLE}" + "".join(lines + divorce)
         vector(f"kind 2, lines {count}", READ, kind_2_of(count), text=text)
     vector("001, Example A", READ, EXAMPLE_A, text=EXAMPLE_A_TEXT)
     vector("003, Example B", READ, EXAMPLE_B, text=EXAMPLE_B_TEXT)
@@ -481,6 +530,7 @@ def accepted():
         none = {name: 0 for at, _, name in AMOUNTS if at == label}
         vector(f"{label}, every amount {LIMIT}", READ, base, full)
         vector(f"{label}, every amount 0", READ, base, none)
+        vector(f"{label}, no divorce debit", READ, without_divorce(base))
         vector(f"{label}, months 0", READ, base, {"months": 0})
         vector(f"{label}, months 2", READ, base, {"months": 2})
         vector(f"{label}, months 256", READ, base, {"months": 256})
@@ -499,8 +549,10 @@ def left_to_valuing():
     vector("line 1 before guarantee", READ, EXAMPLE_B, {"line 1 date": early})
     vector("age 60 and more", READ, EXAMPLE_A, {"birth": (1930, 6, 1)})
     vector("state pension date 5 April 2016", READ, KIND_1, {"state pension date": (2016, 4, 5)})
-    vector("debit above pension", READ, EXAMPLE_A, {"line 1 pension debit": LIMIT})
+    vector("Scheme Pays above pension", READ, EXAMPLE_A, {"line 1 Scheme Pays": LIMIT})
     vector("total below zero", READ, EXAMPLE_A, {"line 1 modification": LIMIT})
+    vector("divorce debit above all benefits", READ, EXAMPLE_A, {"line 1 debit pension": LIMIT})
+    vector("divorce debit of a benefit not held", READ, EXAMPLE_B, {"line 1 pension": 0, "line 1 debit pension": 1})
 
 
 # ---------------------------------------------------------------------------
@@ -541,7 +593,8 @@ def check():
         vector_of_bytes(f"{label}, check one less", 2, with_check(block, true_check - 1))
         vector_of_bytes(f"{label}, check 0", 2, with_check(block, 0))
         vector_of_bytes(f"{label}, check 4294967295", 2, with_check(block, 2**32 - 1))
-        for position in (0, 2, 4, 75, 255, 256, 287, 304, 507):
+        divorce = (352, 359, 368, 375, 376, 399, 400, 423, 424, 447, 448)
+        for position in (0, 2, 4, 75, 255, 256, 287, 304, *divorce, 507):
             wrong = with_bytes(block, {position: block[position] ^ 1})
             vector_of_bytes(f"{label}, byte {position} changed", 2, wrong)
         vector_of_bytes(f"{label}, bytes 4 and 5 swapped", 2, swapped(block, 4, 5))
@@ -667,7 +720,7 @@ def kind():
 # ---------------------------------------------------------------------------
 # Refusal 4.
 
-UNNAMED = [(2, 3), (14, 15), (36, 39), (68, 71), (140, 143), (212, 215), (284, 287), (352, 507)]
+UNNAMED = [(2, 3), (14, 15), (36, 39), (68, 71), (140, 143), (212, 215), (284, 287), (448, 507)]
 
 
 def unnamed_bytes():
@@ -682,6 +735,28 @@ def unnamed_bytes():
     vector("kind 1, every unnamed byte 255", 4, KIND_1, put={
         position: 255 for first, last in UNNAMED for position in range(first, last + 1)
     })
+
+
+def divorce_bytes():
+    """Bytes 352 to 447 set one at a time in cases without a divorce debit, and some together."""
+    group("divorce debits, byte by byte")
+    one, two = without_divorce(KIND_1), without_divorce(KIND_2)
+    for line, start in DIVORCE_STARTS.items():
+        for name, (offset, size) in DIVORCE_FIELDS.items():
+            for place in range(size):
+                # Bit 0 of byte 0, bit 1 of byte 1 and so on: 2^27 is in range, 2^36 is not.
+                label = f"byte {start + offset + place}, bit {1 << place}"
+                put_in = {f"line {line} {name}": 2 ** (9 * place)}
+                in_reach = READ if place < 4 else 5
+                vector(f"kind 1, {label}", in_reach if line == 1 else 4, one, put_in)
+                vector(f"kind 2, {label}", 4 if name == "debit lump sum" else in_reach, two, put_in)
+    vector("kind 1, byte 352, 255", READ, one, {"line 1 debit pension": 255})
+    vector("kind 2, byte 352 and status 5", 5, two, {"line 1 debit pension": 1, "status": 5})
+    spans = [("352 to 375", 376, 5, 4), ("352 to 447", 448, 4, 4), ("352 to 507", 508, 4, 4)]
+    for label, end, in_kind_1, in_kind_2 in spans:
+        put = {position: 255 for position in range(352, end)}
+        vector(f"kind 1, bytes {label}, 255", in_kind_1, one, put=put)
+        vector(f"kind 2, bytes {label}, 255", in_kind_2, two, put=put)
 
 
 def flag_bits():
@@ -737,7 +812,7 @@ def must_be_zero_by_kind():
     vector("003, Example B as kind 1", 4, EXAMPLE_B, {"kind": 1})
 
     group("4 in kind 2")
-    for name in ("lump sum", "modification", "lump sum debit"):
+    for name in ("lump sum", "modification", "Scheme Pays lump sum", "debit lump sum"):
         each_byte_set("kind 2", KIND_2, f"line 1 {name}")
         for line in (2, 3):
             first_and_last_byte_set("kind 2", KIND_2, f"line {line} {name}")
@@ -756,7 +831,7 @@ def lines_past_the_count():
     cases += [(f"kind 2, count {count}", kind_2_of(count), count) for count in (1, 2, 3)]
     for label, base, count in cases:
         for line in range(count + 1, 5):
-            for name in LINE_FIELDS:
+            for name in [*LINE_FIELDS, *DIVORCE_FIELDS]:
                 first_and_last_byte_set(label, base, f"line {line} {name}")
             real = {f"line {line} date": (2044, 2, 18)}
             vector(f"{label}, line {line} date real", 4, base, real)
@@ -802,9 +877,7 @@ def amounts():
         vector(f"{label}, {name} {LIMIT + 1}", 5, base, {name: LIMIT + 1})
         vector(f"{label}, {name} 2^32", 5, base, {name: 2**32})
         vector(f"{label}, {name} 2^63", 5, base, {name: 2**63})
-    vector("kind 1, AVC 2^64-1", 5, KIND_1, {"AVC": 2**64 - 1})
-    vector("kind 1, line 1 lump sum debit 2^64-1", 5, KIND_1, {"line 1 lump sum debit": 2**64 - 1})
-    vector("kind 2, line 4 pension debit 2^64-1", 5, KIND_2, {"line 4 pension debit": 2**64 - 1})
+        vector(f"{label}, {name} 2^64-1", 5, base, {name: 2**64 - 1})
     for bit in range(30):
         vector(f"one bit of a pension, 2^{bit}", READ, KIND_1, {"line 1 pension": 2**bit})
     for bit in range(30, 64):
@@ -926,8 +999,9 @@ def order_2():
     unsealed("check and byte 507", KIND_2, {}, {507: 255})
     unsealed("check and flag 4", KIND_1, {"flags": 6})
     unsealed("check and case number 0", KIND_2, {"case number": 0})
+    unsealed("check and line 4 debit survivor above", KIND_2, {"line 4 debit survivor": LIMIT + 1})
     unsealed("check and month 13", KIND_2, {"birth": (1979, 13, 3)})
-    unsealed("check, kind, byte and range", KIND_2, {"kind": 9, "status": 0}, {400: 7})
+    unsealed("check, kind, byte and range", KIND_2, {"kind": 9, "status": 0}, {450: 7})
 
 
 def order_3():
@@ -939,6 +1013,10 @@ def order_3():
     vector("kind 1, count 2 and line 3 pension", 3, KIND_1, {"count": 2, "line 3 pension": 1})
     vector("kind 1, count 2 and byte 36", 3, KIND_1, {"count": 2}, {36: 1})
     vector("kind 2, count 5 and lump sum", 3, KIND_2, {"count": 5, "line 1 lump sum": 1})
+    vector("kind 1, count 2 and line 3 debit pension", 3, KIND_1, {"count": 2, "line 3 debit pension": 1})
+    vector("kind 2, count 5 and debit lump sum", 3, KIND_2, {"count": 5, "line 1 debit lump sum": 1})
+    vector("kind 3 and byte 448", 3, KIND_1, {"kind": 3}, {448: 1})
+    vector("kind 3 and debit pension above", 3, KIND_1, {"kind": 3, "line 1 debit pension": LIMIT + 1})
     vector("kind 2, count 0 with lines", 3, KIND_2, {"count": 0})
     vector("kind 0 and case number 0", 3, KIND_1, {"kind": 0, "case number": 0})
     vector("kind 3 and birth zero", 3, KIND_1, {"kind": 3, "birth": NO_DATE})
@@ -951,14 +1029,14 @@ def order_4():
     group("order, 4 first")
     vector("byte 2 and case number 0", 4, KIND_1, {"case number": 0}, {2: 1})
     vector("byte 507 and case number 0", 4, KIND_2, {"case number": 0}, {507: 1})
-    vector("byte 352 and status 5", 4, KIND_2, {"status": 5}, {352: 1})
+    vector("byte 448 and status 5", 4, KIND_2, {"status": 5}, {448: 1})
     vector("byte 287 and birth zero", 4, KIND_2, {"birth": NO_DATE}, {287: 1})
     vector("byte 39 and revaluation 0", 4, KIND_1, {"revaluation": 0}, {39: 1})
     vector("flag 4 and receiving scheme 0", 4, KIND_1, {"flags": 6, "receiving scheme": 0})
     vector("transfer flag in kind 1 and status 0", 4, KIND_1, {"flags": 3, "status": 0})
     vector("line 4 lump sum and AVC above", 4, KIND_2, {"line 4 lump sum": 1, "AVC": LIMIT + 1})
-    vector("line 4 lump sum debit and month 13", 4, KIND_2, {
-        "line 4 lump sum debit": 1, "birth": (1979, 13, 3),
+    vector("line 4 Scheme Pays lump sum and month 13", 4, KIND_2, {
+        "line 4 Scheme Pays lump sum": 1, "birth": (1979, 13, 3),
     })
     vector("line 2 additional pension and line 1 date zero", 4, KIND_2, {
         "line 2 additional pension": 1, "line 1 date": NO_DATE,
@@ -977,6 +1055,32 @@ def order_4():
         "state pension date": (2019, 2, 29),
     })
     vector("line past the count no real day", 4, kind_2_of(3), {"line 4 date": (2019, 2, 29)})
+    order_4_divorce()
+
+
+def order_4_divorce():
+    above = LIMIT + 1
+    vector("byte 448 and line 4 debit survivor above", 4, KIND_2, {"line 4 debit survivor": above}, {448: 1})
+    vector("byte 507 and debit lump sum above", 4, KIND_1, {"line 1 debit lump sum": above}, {507: 1})
+    vector("line 2 debit pension in kind 1, and line 1 debit pension above", 4, KIND_1, {
+        "line 2 debit pension": 1, "line 1 debit pension": above,
+    })
+    vector("line 4 debit survivor past the count, and line 3 debit survivor above", 4, kind_2_of(3), {
+        "line 4 debit survivor": 1, "line 3 debit survivor": above,
+    })
+    for line in (1, 2, 3, 4):
+        vector(f"line {line} debit lump sum in kind 2, and line 1 debit pension above", 4, KIND_2, {
+            f"line {line} debit lump sum": 1, "line 1 debit pension": above,
+        })
+        vector(f"line {line} debit lump sum above in kind 2", 4, KIND_2, {f"line {line} debit lump sum": above})
+    for name in DIVORCE_FIELDS:
+        for line in (2, 3, 4):
+            past = {f"line {line} {name}": above}
+            vector(f"line {line} {name} above in kind 1", 4, KIND_1, past)
+            vector(f"line {line} {name} above past the count", 4, kind_2_of(line - 1), past)
+    vector("line 2 debit pension past the count, and case number 0", 4, kind_2_of(1), {
+        "line 2 debit pension": 1, "case number": 0,
+    })
 
 
 def several_ranges():
@@ -989,6 +1093,12 @@ def several_ranges():
     })
     vector("two amounts that add up to 0 in 64 bits", 5, KIND_1, {
         "line 1 pension": 2**63, "line 1 additional pension": 2**63,
+    })
+    vector("two divorce debits that add up to 0 in 64 bits", 5, KIND_1, {
+        "line 1 debit pension": 2**63, "line 1 debit survivor": 2**63,
+    })
+    vector("every divorce debit above", 5, KIND_2, {
+        f"line {line} {name}": LIMIT + 1 for line in (1, 2, 3, 4) for name in ("debit pension", "debit survivor")
     })
 
 
@@ -1003,6 +1113,7 @@ def all_vectors():
     check_kept()
     kind()
     unnamed_bytes()
+    divorce_bytes()
     flag_bits()
     without_their_flag()
     must_be_zero_by_kind()

@@ -1,14 +1,17 @@
--- What acceptance gives: the payment.
+-- What acceptance gives: the payment, and what makes up the first value.
 -- Assumes nothing.
 use Prim.Native.Nat.{_+_}
 use mathlib.Core.Bool.{false}
 use mathlib.Core.Path.{_≡_, refl, ap, _∙_}
 use Rattle.refusals.proofs.Order.{none-first, none-given}
-use Rattle.refusals.specs.declared.Refusal.the-variants.{Reserved}
+use Rattle.refusals.specs.declared.Refusal.the-variants.{Reserved, Award}
 use Rattle.cases.specs.Kinds.{rulesOf}
 use Rattle.cases.proofs.Transfers.{no-transfer-flag}
 use Rattle.cases.specs.declared.Case.{Case}
+use Rattle.sums.specs.Rows.{factorsOf}
+use Rattle.sums.specs.Sum.{firstValue, debitValue}
 use Rattle.sums.specs.Payment.{payment}
+use Rattle.sums.proofs.Divorce.{gross-and-debit}
 use Rattle.sums.proofs.Payment.{payment-unflagged}
 use Rattle.answers.specs.declared.Outcome.the-variants.{Paid}
 use Rattle.answers.specs.Answer.{Accepted, tests, grossOf, itemsOf, answerOf, paid}
@@ -31,3 +34,8 @@ accepted-gross c k n = accepted-payment c n ∙ payment-unflagged c (grossOf c) 
 pub section-1995-paid : (c : Case) → c .kind ≡ 1 → Accepted c → paid (answerOf c) ≡ grossOf c + c .avc
 unfolding rulesOf
 section-1995-paid c k = accepted-gross c (rw k refl)
+
+-- the gross value and the debit value make up the first value
+pub accepted-divorce : (c : Case) → Accepted c → grossOf c + debitValue (factorsOf c) c ≡ firstValue (factorsOf c) c
+unfolding grossOf tests
+accepted-divorce c n = gross-and-debit (factorsOf c) c (none-given Award (tests c) n)

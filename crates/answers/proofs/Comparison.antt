@@ -16,8 +16,9 @@ use Rattle.cases.proofs.Entries.{same-line, amount-listed}
 use Rattle.cases.specs.declared.Line.{Line}
 use Rattle.cases.specs.declared.Case.{Case}
 use Rattle.refusals.proofs.Order.{none-given}
-use Rattle.refusals.specs.declared.Refusal.the-variants.{Debit, Negative}
+use Rattle.refusals.specs.declared.Refusal.the-variants.{Debit, Negative, Award}
 use Rattle.sums.specs.Rows.{rowOf, factorsOf}
+use Rattle.sums.specs.Sum.{awardFault}
 use Rattle.sums.specs.Payment.{underpin, payment}
 use Rattle.sums.proofs.Order.{NoWorse, no-worse-same, gross-mono, payment-mono}
 use Rattle.sums.proofs.Near.{Raised, raised-no-worse, gross-near}
@@ -53,6 +54,9 @@ effect layout.lump i e l m k = (refl, omega arith)
 effect layout.modification i e l m k = omega arith
 effect layout.schemePays i e l m k = omega arith
 effect layout.schemePaysLump i e l m k = omega arith
+effect layout.debitPension i e l m k = omega arith
+effect layout.debitSurvivor i e l m k = omega arith
+effect layout.debitLump i e l m k = omega arith
 
 -- the larger amount less the smaller
 abbrev extra : Amount → Line → Line → ℕ
@@ -97,12 +101,17 @@ module _ (i : ℕ) (a : Amount) (c d : Case) (alike : AlikeBut (amount i a) c d)
   rate-same : c .revaluation ≡ d .revaluation
   rate-same = cc (heads layout.revaluation)
 
+  -- 16 applies to neither, with the same factors
+  no-awards : Accepted c → Accepted d → (awardFault (factorsOf c) c ≡ false) × (awardFault (factorsOf c) d ≡ false)
+  unfolding tests
+  no-awards m n = (none-given Award (tests c) m, rw factors-same (none-given Award (tests d) n))
+
   -- where line i is no worse in d, d is paid no less
   paid-order : Accepted c → Accepted d → NoWorse (line c i) (line d i) → paid (answerOf c) ≤ paid (answerOf d)
   unfolding grossOf
   paid-order m n w =
       rw (accepted-payment c m, accepted-payment d n, payment-same, ← factors-same)
-      (payment-mono d (gross-mono (factorsOf c) c d rate-same (λ j. lines j (ℕ-discrete j i))))
+      (payment-mono d (gross-mono (factorsOf c) c d rate-same (λ j. lines j (ℕ-discrete j i)) (no-awards m n)))
     where
       lines : (j : ℕ) → Dec (j ≡ i) → NoWorse (line c j) (line d j)
       lines j (yes p) = rw p w
@@ -125,7 +134,7 @@ by-role i a c d alike within m n h =
       paid-order i a c d alike m n (raised-no-worse b e (line c i) (line d i) (r .1)),
       rw (r .0, ← factors-same i a c d alike)
           (gross-near (factorsOf c) c d i within (rate-same i a c d alike) (other-line i a c d alike) b e (r .1)
-          (none-given Debit (tests c) m) (none-given Negative (tests c) m)),
+          (none-given Debit (tests c) m) (none-given Negative (tests c) m) (no-awards i a c d alike m n)),
     )
     go taken w = paid-order i a d c (λ x q. sym (alike x q)) n m w
     go other w = tt

@@ -11,11 +11,11 @@ use Rattle.cases.specs.Kinds.{rulesOf}
 use Rattle.cases.specs.Form.{kindFault, lineFilled, reservedFilled, lineReservedFault, headReservedFault, reservedFault, lineRangeFault, datesRangeFault, headRangeFault, rangeFault}
 use Rattle.factors.specs.Tables.{section1995Table, scheme2015Table, rowAt, rowIn}
 use Rattle.sums.specs.Rows.{rowOf, factorsOf}
-use Rattle.sums.specs.Sum.{item, deduction, credit, negativeFault, grossBy, schemePaysFault}
+use Rattle.sums.specs.Sum.{valuedOn, deduction, credit, negativeFault, firstValue, debitValue, awardFault, grossBy, schemePaysFault}
 use Rattle.sums.specs.Payment.{underpin, payment}
 use Rattle.answers.specs.Answer.{factorFault, tests, grossOf, itemsOf, answerOf}
 use Rattle.answers.specs.Figures.{figures}
 
 pub figures-hold : map (λ r. r .worked) figures ≡ map (λ r. r .stated) figures
-unfolding nearest sumBelow anyBelow howMany fewest daysIn isReal inYear age yearsAhead lineBy rulesOf kindFault lineFilled reservedFilled lineReservedFault headReservedFault reservedFault lineRangeFault datesRangeFault headRangeFault rangeFault section1995Table scheme2015Table rowAt rowIn rowOf factorsOf item deduction credit negativeFault grossBy schemePaysFault underpin payment factorFault tests grossOf itemsOf answerOf
+unfolding nearest sumBelow anyBelow howMany fewest daysIn isReal inYear age yearsAhead lineBy rulesOf kindFault lineFilled reservedFilled lineReservedFault headReservedFault reservedFault lineRangeFault datesRangeFault headRangeFault rangeFault section1995Table scheme2015Table rowAt rowIn rowOf factorsOf valuedOn deduction credit negativeFault firstValue debitValue awardFault grossBy schemePaysFault underpin payment factorFault tests grossOf itemsOf answerOf
 figures-hold = refl

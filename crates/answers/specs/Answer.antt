@@ -5,7 +5,7 @@ use mathlib.Core.Bool.{Bool, false}
 use mathlib.Core.List.{List, [], _∷_, _++_}
 use Rattle.refusals.specs.Refusals.{numberOf}
 use Rattle.refusals.specs.Tests.{Test, _gives_, first, NoneOf}
-use Rattle.refusals.specs.declared.Refusal.the-variants.{Factor, Debit, Negative}
+use Rattle.refusals.specs.declared.Refusal.the-variants.{Factor, Debit, Negative, Award}
 use Rattle.refusals.specs.declared.Verdict.{Verdict}
 use Rattle.refusals.specs.declared.Verdict.the-variants.{Passed, Refused as Refusing}
 use Rattle.cases.specs.Entries.{anyLine}
@@ -13,7 +13,7 @@ use Rattle.cases.specs.Form.{formTests}
 use Rattle.cases.specs.declared.Case.{Case}
 use Rattle.factors.specs.Rows.{absent}
 use Rattle.sums.specs.Rows.{rowOf, factorsOf}
-use Rattle.sums.specs.Sum.{memberPension, lumpSum, survivorPension, item, deduction, negativeFault, grossBy, schemePaysFault}
+use Rattle.sums.specs.Sum.{memberPension, lumpSum, survivorPension, item, deduction, negativeFault, awardFault, grossBy, schemePaysFault}
 use Rattle.sums.specs.Payment.{underpin, payment}
 use Rattle.entitlement.specs.Entitlement.{entitlementTests}
 use Rattle.answers.specs.declared.Items.{Items}
@@ -24,12 +24,14 @@ use Rattle.answers.specs.declared.Outcome.the-variants.{Paid, Refused}
 unfoldable pub factorFault : Case → Bool
 factorFault c = anyLine (λ i l. absent (rowOf c i)) c
 
--- 13 debit: Scheme Pays above what it reduces; 14 negative: the total is below zero before it is rounded
+-- 13 debit: Scheme Pays above what it reduces; 14 negative: the total is below zero before it is rounded; 16 award: the debit value
+-- is above the first value
 abbrev pub amountTests : Case → List Test
 amountTests c =
     (factorFault c gives Factor) ∷
     (schemePaysFault c gives Debit) ∷
-    (negativeFault (factorsOf c) c gives Negative) ∷ []
+    (negativeFault (factorsOf c) c gives Negative) ∷
+    (awardFault (factorsOf c) c gives Award) ∷ []
 
 -- valuing's refusals in their order, stage after stage: the case's form, the member's entitlement, the amounts
 unfoldable pub tests : Case → List Test
@@ -39,7 +41,7 @@ tests c = formTests false c ++ entitlementTests c ++ amountTests c
 unfoldable pub grossOf : Case → ℕ
 grossOf c = grossBy (factorsOf c) c
 
--- the payment with its items, over all lines
+-- the payment with its items, over all lines; a divorce debit shows in the payment and in no item
 unfoldable pub itemsOf : Case → Items
 itemsOf c =
     record {

@@ -21,8 +21,8 @@ pub data Role : Type 0 where
   adds : Benefit → ℕ → Role
   taken other : Role
 
--- additional amounts count as the pension that they add to; both amounts of Scheme Pays are debits, and the insurance deduction is
--- the modification
+-- additional amounts count as the pension that they add to; both amounts of Scheme Pays and the three of a divorce debit are debits,
+-- and the insurance deduction is the modification
 abbrev pub roleOnLine : ℕ → Amount → Role
 roleOnLine i layout.pension = adds memberPension i
 roleOnLine i layout.additional = adds memberPension i
@@ -32,6 +32,9 @@ roleOnLine i layout.lump = adds lumpSum i
 roleOnLine i layout.modification = taken
 roleOnLine i layout.schemePays = taken
 roleOnLine i layout.schemePaysLump = taken
+roleOnLine i layout.debitPension = taken
+roleOnLine i layout.debitSurvivor = taken
+roleOnLine i layout.debitLump = taken
 
 -- whether something is promised of an entry of this role; of each amount of a line it is (the law all-promised)
 abbrev pub promised : Role → Bool

@@ -8,7 +8,7 @@ use native.Mathlib.Omega.{arith}
 use lib.ListN.{length, drop, set, length-set}
 use lib.Seq.{drop-cons, drop-length, getD-set-same, drop-set-lt}
 use Rattle.buffers.specs.Bytes.{numberAt}
-use Rattle.cases.specs.Layout.{amount, amounts, lineAt, place}
+use Rattle.cases.specs.Layout.{amount, amountsOfLine, amountsOfDivorceDebit, lineAt, divorceDebitAt, place}
 use Rattle.blocks.specs.Block.{fieldOf, amountsFrom}
 
 -- what stands from index i on are the amounts from there on
@@ -39,7 +39,11 @@ read-all s at out r =
     let n : length out - 0 ≡ length out = omega arith in
     rw (e, n) at r
 
--- the amounts of a line stand one after the other
-pub line-amounts : (s : List ℕ) (i : ℕ) → amountsFrom 8 s (lineAt i + 8) ≡ map (λ a. fieldOf s (place (amount i a))) amounts
+-- the amounts of a line stand one after the other, and so do those of its divorce debit
+pub line-amounts : (s : List ℕ) (i : ℕ) → amountsFrom 8 s (lineAt i + 8) ≡ map (λ a. fieldOf s (place (amount i a))) amountsOfLine
 unfolding amountsFrom
 line-amounts s i = simp add-assoc
+
+pub debit-amounts : (s : List ℕ) (i : ℕ) → amountsFrom 3 s (divorceDebitAt i) ≡ map (λ a. fieldOf s (place (amount i a))) amountsOfDivorceDebit
+unfolding amountsFrom
+debit-amounts s i = simp add-assoc

@@ -4,3 +4,4 @@ pub mod Order
 pub mod Sums
 pub mod Words
 pub mod Files
+pub mod Zeros

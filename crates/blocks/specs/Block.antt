@@ -10,7 +10,7 @@ use Rattle.numbers.specs.Below.{sumBelow, anyBelow}
 use Rattle.numbers.specs.Lists.{any}
 use Rattle.buffers.specs.Bytes.{numberAt}
 use Rattle.calendar.specs.declared.Date.{Date}
-use Rattle.cases.specs.Layout.{Amount, amount-discrete, amounts, Field, place, layout, gaps}
+use Rattle.cases.specs.Layout.{Amount, amount-discrete, amountsOfLine, amountsOfDivorceDebit, Field, place, layout, gaps}
 use Rattle.cases.specs.Entries.{lineWith, caseBy}
 use Rattle.cases.specs.declared.Line.{Line}
 use Rattle.cases.specs.declared.Case.{Case}
@@ -53,6 +53,12 @@ unfoldable pub amountsFrom : ℕ → List ℕ → ℕ → List ℕ
 amountsFrom zero s p = []
 amountsFrom (suc n) s p = numberAt 8 s p ∷ amountsFrom n s (p + 8)
 
--- the line of a date and of amounts in block order
-abbrev pub lineInOrder : Date → List ℕ → Line
-lineInOrder d n = lineWith d (λ a. getD n (placeIn a amounts) 0)
+-- an amount of a line, from those that stand in the line and those of its divorce debit, both in block order
+abbrev pub amountInOrder : List ℕ → List ℕ → Amount → ℕ
+amountInOrder n debit a =
+    let p : ℕ = placeIn a amountsOfLine in
+    cond (ltb p 8) (getD n p 0) (getD debit (placeIn a amountsOfDivorceDebit) 0)
+
+-- the line of a date and of these
+abbrev pub lineInOrder : Date → List ℕ → List ℕ → Line
+lineInOrder d n debit = lineWith d (amountInOrder n debit)

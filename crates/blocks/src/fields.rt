@@ -41,9 +41,9 @@ fn amounts_at(b: &[u8], at: usize, out: &mut [u64])
     }
 }
 
-// The line of a date and of amounts in block order.
-fn line_with(date: Date, n: [u64; 8]) -> Line
-    ensures { λ r. ⌜ r ≡ block.lineInOrder date n ⌝ }
+// The line of a date, and of its amounts and those of its divorce debit in block order.
+fn line_with(date: Date, n: [u64; 8], debit: [u64; 3]) -> Line
+    ensures { λ r. ⌜ r ≡ block.lineInOrder date n debit ⌝ }
 {
     Line {
         date: date,
@@ -55,6 +55,9 @@ fn line_with(date: Date, n: [u64; 8]) -> Line
         modification: n[5],
         scheme_pays: n[6],
         scheme_pays_lump: n[7],
+        debit_pension: debit[0],
+        debit_survivor: debit[1],
+        debit_lump: debit[2],
     }
 }
 
@@ -66,7 +69,9 @@ pub(crate) fn line_of(b: &[u8], i: usize) -> Line
     let at = 64 + i * 72;
     let mut n = [0u64; 8];
     amounts_at(b, at + 8, &mut n);
-    line_with(date_at(b, at), n)
+    let mut debit = [0u64; 3];
+    amounts_at(b, 352 + i * 24, &mut debit);
+    line_with(date_at(b, at), n, debit)
 }
 
 // The case that a block's fields before the lines, and the lines given, make.
@@ -104,7 +109,7 @@ pub(crate) fn zero_case() -> Case
     ensures { λ r. ⌜ r ≡ block.zeroCase ⌝ }
 {
     let d = date_of(0);
-    let l = line_with(d, [0u64; 8]);
+    let l = line_with(d, [0u64; 8], [0u64; 3]);
     let lines = [l, l, l, l];
     Case {
         kind: 0,

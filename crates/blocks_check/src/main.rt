@@ -33,7 +33,7 @@ fn put_benefits(out: &mut [u8], at: usize, l: Line) -> usize {
     put_field(out, dependant, l.lump)
 }
 
-fn put_debits(out: &mut [u8], at: usize, l: Line) -> usize {
+fn put_deductions(out: &mut [u8], at: usize, l: Line) -> usize {
     let modification = put_field(out, at, l.modification);
     let scheme_pays = put_field(out, modification, l.scheme_pays);
     put_field(out, scheme_pays, l.scheme_pays_lump)
@@ -42,7 +42,7 @@ fn put_debits(out: &mut [u8], at: usize, l: Line) -> usize {
 fn put_line(out: &mut [u8], at: usize, l: Line) -> usize {
     let date = put_date(out, at, l.date);
     let benefits = put_benefits(out, date, l);
-    put_debits(out, benefits, l)
+    put_deductions(out, benefits, l)
 }
 
 fn put_lines(out: &mut [u8], at: usize, lines: [Line; 4]) -> usize {
@@ -50,6 +50,19 @@ fn put_lines(out: &mut [u8], at: usize, lines: [Line; 4]) -> usize {
     let second = put_line(out, first, lines[1]);
     let third = put_line(out, second, lines[2]);
     put_line(out, third, lines[3])
+}
+
+fn put_divorce_debit(out: &mut [u8], at: usize, l: Line) -> usize {
+    let pension = put_field(out, at, l.debit_pension);
+    let survivor = put_field(out, pension, l.debit_survivor);
+    put_field(out, survivor, l.debit_lump)
+}
+
+fn put_divorce_debits(out: &mut [u8], at: usize, lines: [Line; 4]) -> usize {
+    let first = put_divorce_debit(out, at, lines[0]);
+    let second = put_divorce_debit(out, first, lines[1]);
+    let third = put_divorce_debit(out, second, lines[2]);
+    put_divorce_debit(out, third, lines[3])
 }
 
 fn put_codes(out: &mut [u8], at: usize, c: Case) -> usize {
@@ -86,7 +99,8 @@ fn put_case(out: &mut [u8], at: usize, c: Case) -> usize {
     let dates = put_dates(out, counts, c);
     let funds = put_funds(out, dates, c);
     let lines = c.lines;
-    put_lines(out, funds, lines)
+    let benefits = put_lines(out, funds, lines);
+    put_divorce_debits(out, benefits, lines)
 }
 
 fn put_refusal(out: &mut [u8], at: usize, why: Refusal) -> usize {

@@ -1,6 +1,6 @@
 -- The laws of numbers in bytes, over the width and the position.
 -- Assumes nothing.
-use Prim.Native.Nat.{ℕ, _+_, _*_, _^_, _≤_, _<_}
+use Prim.Native.Nat.{ℕ, zero, suc, _+_, _*_, _^_, _≤_, _<_}
 use native.Mathlib.Nat.{mul-assoc, pow-succ'}
 use native.Mathlib.Omega.{arith}
 use mathlib.Core.List.{List, [], _∷_, _++_}
@@ -34,3 +34,14 @@ pub number-join : (m n : ℕ) (s : List ℕ) (p : ℕ) → p + (m + n) ≤ lengt
 number-join m n s p h =
     let l : length (take m (drop p s)) ≡ m = length-take-le m (drop p s) (rw length-drop (omega arith)) in
     rw (within (m + n) s p h, within m s p (omega arith), within n s (p + m) (omega arith), take-add, append, l, drop-drop)
+
+-- bytes of zero hold the number 0
+pub number-zero : (width : ℕ) (s : List ℕ) (p : ℕ) → p + width ≤ length s → ((k : ℕ) → k < width → getD s (p + k) 0 ≡ 0) → numberAt width s p ≡ 0
+unfolding littleEndian
+number-zero zero s p h z = within 0 s p h
+number-zero (suc n) s p h z =
+    let e : suc n ≡ 1 + n = omega arith in
+    let here : p ≡ p + 0 = omega arith in
+    let first : getD s p 0 ≡ 0 = rw here (z 0 (omega arith)) in
+    let rest = number-zero n s (p + 1) (omega arith) (λ k q. let next : p + 1 + k ≡ p + (k + 1) = omega arith in rw next (z (k + 1) (omega arith))) in
+    rw (e, number-join 1 n s p (omega arith), number-one s p (omega arith), first, rest) (omega arith)

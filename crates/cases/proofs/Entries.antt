@@ -38,3 +38,6 @@ amount-listed layout.lump = refl
 amount-listed layout.modification = refl
 amount-listed layout.schemePays = refl
 amount-listed layout.schemePaysLump = refl
+amount-listed layout.debitPension = refl
+amount-listed layout.debitSurvivor = refl
+amount-listed layout.debitLump = refl

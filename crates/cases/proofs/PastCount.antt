@@ -1,19 +1,19 @@
 -- What refusals 3 and 4 leave of the lines of a case: at most four, and those past the count are zero. A line of zeros breaks no rule.
 -- Assumes nothing.
 use Prim.Native.Nat.{ℕ, _≤_, _<_}
-use mathlib.Core.Bool.{Bool, true, false, not, _&&_, _||_, and-eq-true-iff, and-true, and-false}
+use mathlib.Core.Bool.{Bool, false, not, _&&_, _||_, and-eq-true-iff, and-true, and-false}
 use mathlib.Core.Bool as bool
 use mathlib.Core.List.{List, [], _∷_}
 use mathlib.Core.Path.{_≡_, refl}
 use native.Mathlib.Omega.{arith}
 use lib.Dec.{eqb, leb}
 use borrow.Author.Tests.{leb-true, le-leb, lt-ltb, le-ltb, eqb-true, not-false}
-use Rattle.numbers.specs.Lists.{any, every, Each}
+use Rattle.numbers.specs.Lists.{any, Each}
 use Rattle.numbers.proofs.Tests.{and-right-false, or-false}
 use Rattle.numbers.proofs.Below.{any-false}
 use Rattle.numbers.proofs.Lists.{each, of-listed, none-every}
 use Rattle.calendar.specs.Dates.{isReal, isZero}
-use Rattle.cases.specs.Layout.{Amount, amount-discrete, amounts, additional, dependant, lump, modification, schemePaysLump}
+use Rattle.cases.specs.Layout.{Amount, amount-discrete, amounts, additional, dependant, lump, modification, schemePaysLump, debitLump}
 use Rattle.cases.specs.Entries.{line, anyLine, amountIn}
 use Rattle.cases.specs.Kinds.{rulesOf}
 use Rattle.cases.specs.Form.{kindFault, tooLarge, anyFilled, lineFilled, reservedFilled, lineReservedFault, lineRangeFault, headReservedFault, reservedFault}
@@ -57,7 +57,7 @@ unfolding lineFilled reservedFilled
 zero-reserved rules i l z =
     let date = or-false (not (isZero (l .date))) (anyFilled amounts l) z .0 in
     let n = zero-amount l z in
-    rw (date, n lump, n schemePaysLump, n modification, n additional, n dependant) (simp and-false)
+    rw (date, n lump, n schemePaysLump, n debitLump, n modification, n additional, n dependant) (simp and-false)
 
 pub zero-range : (l : Line) → lineFilled l ≡ false → any (λ a. tooLarge (amountIn a l)) amounts ≡ false
 zero-range l z = none amounts
@@ -75,3 +75,8 @@ module _ (rules : Rules) (count i : ℕ) (l : Line) where
   pub range-past : count ≤ i → lineRangeFault rules count i l ≡ any (λ a. tooLarge (amountIn a l)) amounts
   unfolding lineRangeFault
   range-past h = rw (le-ltb i count h, and-false (rules .dated)) (bool.or-false (any (λ a. tooLarge (amountIn a l)) amounts))
+
+  -- past the count, a line of zeros breaks nothing
+  pub zero-faults : count ≤ i → lineFilled l ≡ false → (lineReservedFault rules count i l ≡ false) × (lineRangeFault rules count i l ≡ false)
+  unfolding lineReservedFault
+  zero-faults h z = (rw (z, le-leb count i h, zero-reserved rules i l z) refl, rw (range-past h) (zero-range l z))

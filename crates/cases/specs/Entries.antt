@@ -30,6 +30,9 @@ lineWith d n =
       modification = n layout.modification;
       «scheme_pays» = n layout.schemePays;
       «scheme_pays_lump» = n layout.schemePaysLump;
+      «debit_pension» = n layout.debitPension;
+      «debit_survivor» = n layout.debitSurvivor;
+      «debit_lump» = n layout.debitLump;
     }
 
 -- the case that some numbers, one to a field before the lines, and some lines make
@@ -104,6 +107,9 @@ amountIn layout.lump l = l .lump
 amountIn layout.modification l = l .modification
 amountIn layout.schemePays l = l .«scheme_pays»
 amountIn layout.schemePaysLump l = l .«scheme_pays_lump»
+amountIn layout.debitPension l = l .«debit_pension»
+amountIn layout.debitSurvivor l = l .«debit_survivor»
+amountIn layout.debitLump l = l .«debit_lump»
 
 abbrev pub entry : Entry → Case → Value
 entry (head h) c = headIn h c

@@ -8,7 +8,7 @@ use Rattle.numbers.specs.Lists.{any}
 use Rattle.calendar.specs.Dates.{isReal, isZero}
 use Rattle.refusals.specs.Tests.{Test, _gives_, NoneOf}
 use Rattle.refusals.specs.declared.Refusal.the-variants.{Kind, Reserved, Range}
-use Rattle.cases.specs.Layout.{Amount, additional, dependant, lump, modification, schemePaysLump, amounts}
+use Rattle.cases.specs.Layout.{Amount, additional, dependant, lump, modification, schemePaysLump, debitLump, amounts}
 use Rattle.cases.specs.Entries.{anyLine, amountIn}
 use Rattle.cases.specs.Flags.{transferFlag, gmpFlag, unusedFlag}
 use Rattle.cases.specs.Kinds.{rulesOf}
@@ -39,12 +39,12 @@ anyFilled some l = any (λ a. filled (amountIn a l)) some
 unfoldable pub lineFilled : Line → Bool
 lineFilled l = not (isZero (l .date)) || anyFilled amounts l
 
--- what must be zero in line i by its kind and place: the date where the kind's lines are not dated; the lump sum and its debit, and
+-- what must be zero in line i by its kind and place: the date where the kind's lines are not dated; the lump sum and its debits, and
 -- the modification, where the kind has none; both additional amounts in every line but the first
 unfoldable pub reservedFilled : Rules → ℕ → Line → Bool
 reservedFilled rules i l =
     (not (rules .dated) && not (isZero (l .date))) ||
-    (not (rules .lump) && anyFilled (lump ∷ schemePaysLump ∷ []) l) ||
+    (not (rules .lump) && anyFilled (lump ∷ schemePaysLump ∷ debitLump ∷ []) l) ||
     (not (rules .modification) && anyFilled (modification ∷ []) l) ||
     (leb 1 i && anyFilled (additional ∷ dependant ∷ []) l)
 

@@ -12,9 +12,10 @@ pub data Head : Type 0 where
   avc transfer contributions : Head
   deriving Discrete as head-discrete
 
--- the amounts of a line; those of Scheme Pays are debits
+-- the amounts of a line; those of Scheme Pays are debits, and the last three are its divorce debit
 pub data Amount : Type 0 where
   pension additional survivor dependant lump modification schemePays schemePaysLump : Amount
+  debitPension debitSurvivor debitLump : Amount
   deriving Discrete as amount-discrete
 
 -- the entries of a case (01's term): every field of its block but the check, the same field of two lines being two entries. Lines
@@ -50,10 +51,15 @@ headAt avc = 40 wide 8
 headAt transfer = 48 wide 8
 headAt contributions = 56 wide 8
 
--- where line i starts, and where its amounts stand
+-- where line i starts
 abbrev pub lineAt : ℕ → ℕ
 lineAt i = 64 + i * 72
 
+-- where its divorce debit starts: these stand after all the lines
+abbrev pub divorceDebitAt : ℕ → ℕ
+divorceDebitAt i = 352 + i * 24
+
+-- where its amounts stand
 abbrev pub amountAt : ℕ → Amount → ℕ
 amountAt i pension = lineAt i + 8
 amountAt i additional = lineAt i + 16
@@ -63,6 +69,9 @@ amountAt i lump = lineAt i + 40
 amountAt i modification = lineAt i + 48
 amountAt i schemePays = lineAt i + 56
 amountAt i schemePaysLump = lineAt i + 64
+amountAt i debitPension = divorceDebitAt i
+amountAt i debitSurvivor = divorceDebitAt i + 8
+amountAt i debitLump = divorceDebitAt i + 16
 
 abbrev pub place : Entry → Field
 place (head h) = headAt h
@@ -79,15 +88,25 @@ heads =
     kind ∷ number ∷ status ∷ receiver ∷ flags ∷ count ∷ service ∷
     birth ∷ leaving ∷ guarantee ∷ statePension ∷ revaluation ∷ avc ∷ transfer ∷ contributions ∷ []
 
+abbrev pub amountsOfLine : List Amount
+amountsOfLine = pension ∷ additional ∷ survivor ∷ dependant ∷ lump ∷ modification ∷ schemePays ∷ schemePaysLump ∷ []
+
+abbrev pub amountsOfDivorceDebit : List Amount
+amountsOfDivorceDebit = debitPension ∷ debitSurvivor ∷ debitLump ∷ []
+
 abbrev pub amounts : List Amount
-amounts = pension ∷ additional ∷ survivor ∷ dependant ∷ lump ∷ modification ∷ schemePays ∷ schemePaysLump ∷ []
+amounts = amountsOfLine ++ amountsOfDivorceDebit
 
 -- what stands for each line, one line after the other
 abbrev pub ofLines : (ℕ → List Entry) → List Entry
 ofLines e = e 0 ++ e 1 ++ e 2 ++ e 3
 
+-- every field in block order: all the lines, and then all their divorce debits
 abbrev pub entries : List Entry
-entries = map head heads ++ ofLines (λ i. date i ∷ map (amount i) amounts)
+entries =
+    map head heads ++
+    ofLines (λ i. date i ∷ map (amount i) amountsOfLine) ++
+    ofLines (λ i. map (amount i) amountsOfDivorceDebit)
 
 -- the fields of the block in their order
 abbrev pub layout : List Field

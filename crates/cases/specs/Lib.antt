@@ -3,3 +3,4 @@ pub mod Entries
 pub mod Flags
 pub mod Kinds
 pub mod Form
+pub mod Bits

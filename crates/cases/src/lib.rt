@@ -1,4 +1,5 @@
 // The case of a member who leaves: its entries, the rules of its kind, and refusals 3 to 5.
+mod bits;
 mod flags;
 mod form;
 mod kinds;
@@ -14,7 +15,7 @@ pub use kinds::rules_of;
 pub use lines::faults_of_line;
 
 // One line of benefits: its pension date and its amounts in pence. The two amounts of Scheme Pays are debits, on the pension and on
-// the lump sum.
+// the lump sum; the last three are a divorce debit, as at leaving.
 pub struct Line {
     pub date: Date,
     pub pension: u64,
@@ -25,6 +26,9 @@ pub struct Line {
     pub modification: u64,
     pub scheme_pays: u64,
     pub scheme_pays_lump: u64,
+    pub debit_pension: u64,
+    pub debit_survivor: u64,
+    pub debit_lump: u64,
 }
 
 // The fields of a block but its check.
@@ -55,7 +59,7 @@ pub struct Rules {
     pub dated: bool,
     // Whether there may be a transfer in, and own contributions.
     pub transfers: bool,
-    // Whether there may be a lump sum, and Scheme Pays on it.
+    // Whether there may be a lump sum, and debits on it.
     pub lump: bool,
     pub modification: bool,
     // The pension age where the lines are not dated.

@@ -10,6 +10,7 @@ use crate::Case;
 use crate::Faults;
 use crate::Line;
 use crate::Rules;
+use crate::bits::all_bits;
 use crate::kinds::rules_of;
 
 // Whether one of some amounts is not zero, and whether one is above the limit.
@@ -19,7 +20,7 @@ struct AmountTests {
 }
 
 // The amounts of a line, in block order.
-fn amounts_of(l: Line) -> [u64; 8]
+fn amounts_of(l: Line) -> [u64; 11]
     ensures { λ r. ⌜ r ≡ map (λ a. amountIn a l) amounts ⌝ }
 {
     [
@@ -31,6 +32,9 @@ fn amounts_of(l: Line) -> [u64; 8]
         l.modification,
         l.scheme_pays,
         l.scheme_pays_lump,
+        l.debit_pension,
+        l.debit_survivor,
+        l.debit_lump,
     ]
 }
 
@@ -62,7 +66,7 @@ fn reserved_filled(rules: Rules, i: u8, l: Line) -> bool
     ensures { λ r. ⌜ r ≡ reservedFilled rules i l ⌝ }
 {
     (!rules.dated & !calendar::is_zero(l.date))
-        | (!rules.lump & ((l.lump != 0) | (l.scheme_pays_lump != 0)))
+        | (!rules.lump & ((l.lump != 0) | (l.scheme_pays_lump != 0) | (l.debit_lump != 0)))
         | (!rules.modification & (l.modification != 0))
         | ((1 <= i) & ((l.additional != 0) | (l.dependant != 0)))
 }
@@ -71,6 +75,9 @@ fn some_too_large(l: Line) -> bool
     ensures { λ r. ⌜ r ≡ any (λ a. tooLarge (amountIn a l)) amounts ⌝ }
 {
     let amounts = amounts_of(l);
+    if all_bits(&amounts) <= 1000000000 {
+        return false;
+    }
     let tests = test_amounts(&amounts);
     tests.too_large
 }

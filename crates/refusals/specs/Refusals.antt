@@ -26,6 +26,7 @@ label refusal.Factor = (12, "factor")
 label refusal.Debit = (13, "debit")
 label refusal.Negative = (14, "negative")
 label refusal.Buffer = (15, "buffer")
+label refusal.Award = (16, "award")
 label refusal.Order = (17, "order")
 
 abbrev pub numberOf : Refusal → ℕ

@@ -23,6 +23,7 @@ pub enum Refusal {
     Debit,
     Negative,
     Buffer,
+    Award,
     Order,
 }
 

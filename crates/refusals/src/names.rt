@@ -36,6 +36,8 @@ const NEGATIVE: [u8; 16] = *b"negative        ";
 
 const BUFFER: [u8; 16] = *b"buffer          ";
 
+const AWARD: [u8; 16] = *b"award           ";
+
 const ORDER: [u8; 16] = *b"order           ";
 
 // A refusal's number, its name in sixteen bytes, and the name's length.
@@ -60,6 +62,7 @@ fn label_of(r: Refusal) -> Label
         Refusal::Debit => Label(13, DEBIT, 5),
         Refusal::Negative => Label(14, NEGATIVE, 8),
         Refusal::Buffer => Label(15, BUFFER, 6),
+        Refusal::Award => Label(16, AWARD, 5),
         Refusal::Order => Label(17, ORDER, 5),
     }
 }

@@ -1,3 +1,4 @@
+pub mod Divorce
 pub mod Order
 pub mod Covered
 pub mod Near

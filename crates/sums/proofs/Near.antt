@@ -2,7 +2,7 @@
 -- Assumes nothing.
 use Prim.Native.Nat.{ℕ, _+_, _-_, _*_, _≤_, _<_}
 use mathlib.Core.Bool.{false}
-use mathlib.Core.Path.{_≡_, ap, _∙_}
+use mathlib.Core.Path.{_≡_, refl, sym, ap, _∙_}
 use native.Mathlib.Nat.{mul-le-mul-right, add-mul, zero-mul, add-zero, mul-right-comm}
 use native.Mathlib.Decide.{ℕ-discrete}
 use native.Mathlib.Omega.{arith}
@@ -14,9 +14,10 @@ use Rattle.cases.specs.Entries.{line}
 use Rattle.cases.specs.declared.Line.{Line}
 use Rattle.cases.specs.declared.Case.{Case}
 use Rattle.factors.specs.declared.Factors.{Factors}
-use Rattle.sums.specs.Sum.{Benefit, memberPension, lumpSum, survivorPension, entered, revalued, schemePaysOn, factor, itemAt, deductionAt, overBenefits, item, deduction, credit, negativeFault, grossBy, schemePaysFault}
-use Rattle.sums.proofs.Order.{each, of-each, NoWorse, revalued-mono}
+use Rattle.sums.specs.Sum.{Benefit, memberPension, lumpSum, survivorPension, entered, revalued, schemePaysOn, reduced, debited, factor, deductionAt, overBenefits, valuedAt, valuedOn, item, deduction, credit, negativeFault, firstValue, debitValue, awardFault, grossBy, schemePaysFault}
+use Rattle.sums.proofs.Order.{each, of-each, NoWorse, revalued-mono, debit-mono}
 use Rattle.sums.proofs.Covered.{covered, not-negative}
+use Rattle.sums.proofs.Divorce.{gross-and-debit}
 
 -- one number to each benefit; e to b and 0 to the others
 abbrev pub perBenefit : ℕ → ℕ → ℕ → Benefit → ℕ
@@ -37,8 +38,9 @@ only-sum survivorPension e g none = omega (arith, none memberPension, none lumpS
 -- line m is line l with e pence more of benefit b, and nothing else that the sum sees
 pub record Raised (b : Benefit) (e : ℕ) (l m : Line) : Type 0 where
   pub benefits : each (λ x. entered x m ≡ entered x l + only b e x)
-  pub debits : each (λ x. schemePaysOn x m ≡ schemePaysOn x l)
+  pub schemePays : each (λ x. schemePaysOn x m ≡ schemePaysOn x l)
   pub modification : m .modification ≡ l .modification
+  pub divorceDebit : each (λ x. debited x m ≡ debited x l)
 
 pub raised-no-worse : (b : Benefit) (e : ℕ) (l m : Line) → Raised b e l m → NoWorse l m
 raised-no-worse b e l m r = omega arith
@@ -72,23 +74,24 @@ rounded-near :
 rounded-near t g k n w =
     omega (arith, within-mul 10000 (g * 10000) n k w, mul-right-comm g 10000 k, nearest-near 100 t (t + g * k) (lit< tt))
 
--- d is c but for e pence more of benefit b on line i, and refusals 13 and 14 do not apply to c
+-- d is c but for e pence more of benefit b on line i, refusals 13 and 14 do not apply to c, and 16 applies to neither
 module _
     (f : ℕ → Factors) (c d : Case) (i : ℕ) (within : i < 4)
     (rate : c .revaluation ≡ d .revaluation)
     (rest : (j : ℕ) → (j ≡ i → ⊥) → line c j ≡ line d j)
     (b : Benefit) (e : ℕ) (r : Raised b e (line c i) (line d i))
     (noExcess : schemePaysFault c ≡ false) (notNegative : negativeFault f c ≡ false)
+    (noAward : (awardFault f c ≡ false) × (awardFault f d ≡ false))
   where
     rise : Benefit → ℕ → ℕ
     rise x n = growth (c .revaluation) (entered x (line c i)) n * factor x (f i)
 
     item-rises : (x : Benefit) → item f d x ≡ item f c x + rise x (only b e x)
-    unfolding item rise
+    unfolding valuedOn rise
     item-rises x =
-        sum-at 4 (λ j. itemAt (c .revaluation) (f j) (line c j) x) (λ j. itemAt (d .revaluation) (f j) (line d j) x) (rise x (only b e x)) i within
+        sum-at 4 (λ j. valuedAt (f j) (reduced (c .revaluation) (line c j)) x) (λ j. valuedAt (f j) (reduced (d .revaluation) (line d j)) x) (rise x (only b e x)) i within
         (λ j n. rw (rate, rest j n))
-        (rw (← rate, of-each (λ y. entered y (line d i) ≡ entered y (line c i) + only b e y) (r .benefits) x, of-each (λ y. schemePaysOn y (line d i) ≡ schemePaysOn y (line c i)) (r .debits) x)
+        (rw (← rate, of-each (λ y. entered y (line d i) ≡ entered y (line c i) + only b e y) (r .benefits) x, of-each (λ y. schemePaysOn y (line d i) ≡ schemePaysOn y (line c i)) (r .schemePays) x)
         (item-grows (c .revaluation) (entered x (line c i)) (only b e x) (schemePaysOn x (line c i)) (factor x (f i)) (covered c noExcess i within x)))
 
     credit-rises : credit f d ≡ credit f c + rise b e
@@ -106,13 +109,27 @@ module _
         go j (yes p) = rw (p, r .modification)
         go j (no n) = rw (rest j n)
 
-    pub gross-near :
-        Within ((factor b (f i) + 100) * 10000) (grossBy f d * 1000000) (grossBy f c * 1000000 + e * c .revaluation * factor b (f i))
-    unfolding grossBy rise
-    gross-near =
-        rw total
+    total-rises : credit f d - deduction f d ≡ credit f c - deduction f c + rise b e
+    total-rises = omega (arith, credit-rises, deduction-kept, not-negative f c notNegative)
+
+    first-near :
+        Within ((factor b (f i) + 100) * 10000) (firstValue f d * 1000000) (firstValue f c * 1000000 + e * c .revaluation * factor b (f i))
+    unfolding firstValue rise
+    first-near =
+        rw total-rises
         (rounded-near (credit f c - deduction f c) (growth (c .revaluation) (entered b (line c i)) e) (factor b (f i)) (e * c .revaluation)
         (growth-near (c .revaluation) (entered b (line c i)) e))
+
+    debit-kept : debitValue f d ≡ debitValue f c
+    debit-kept = omega (arith, debit-mono f c d rate (λ j. let e = same j in omega arith), debit-mono f d c (sym rate) (λ j. let e = same j in omega arith))
       where
-        total : credit f d - deduction f d ≡ credit f c - deduction f c + rise b e
-        total = omega (arith, credit-rises, deduction-kept, not-negative f c notNegative)
+        same : (j : ℕ) → each (λ x. debited x (line d j) ≡ debited x (line c j))
+        same j = go (ℕ-discrete j i)
+          where
+            go : Dec (j ≡ i) → each (λ x. debited x (line d j) ≡ debited x (line c j))
+            go (yes p) = rw p (r .divorceDebit)
+            go (no n) = rw (rest j n) (refl, refl, refl)
+
+    pub gross-near :
+        Within ((factor b (f i) + 100) * 10000) (grossBy f d * 1000000) (grossBy f c * 1000000 + e * c .revaluation * factor b (f i))
+    gross-near = omega (arith, first-near, debit-kept, gross-and-debit f c (noAward .0), gross-and-debit f d (noAward .1))

@@ -1,4 +1,4 @@
--- Steps 1 to 4 of the sum: the gross value of a case, under any factors f, one record of them to a line.
+-- Steps 1 to 4 of the sum, and the divorce debit: the gross value of a case, under any factors f, one record of them to a line.
 -- Assumes nothing.
 use Prim.Native.Nat.{ℕ, _+_, _-_, _*_}
 use mathlib.Core.Bool.{Bool, _||_}
@@ -33,15 +33,21 @@ schemePaysOn survivorPension l = 0
 abbrev pub reduced : ℕ → Line → Benefit → ℕ
 reduced v l b = revalued v (entered b l) - schemePaysOn b l
 
+-- a divorce debit (the notes' pension debit): by how much each benefit, as at leaving, is reduced for the former spouse
+abbrev pub debited : Benefit → Line → ℕ
+debited memberPension l = l .«debit_pension»
+debited lumpSum l = l .«debit_lump»
+debited survivorPension l = l .«debit_survivor»
+
+-- it is revalued as the benefits are, and no Scheme Pays comes off it
+abbrev pub revaluedDebit : ℕ → Line → Benefit → ℕ
+revaluedDebit v l b = revalued v (debited b l)
+
 -- a benefit's factor, in hundredths
 abbrev pub factor : Benefit → Factors → ℕ
 factor memberPension f = f .pension
 factor lumpSum f = f .lump
 factor survivorPension f = f .survivor
-
--- 3: a line's part of an item, in hundredths of a penny; nothing is rounded here
-abbrev pub itemAt : ℕ → Factors → Line → Benefit → ℕ
-itemAt v f l b = reduced v l b * factor b f
 
 -- 3: what the modification takes off, by factor E
 abbrev pub deductionAt : Factors → Line → ℕ
@@ -53,10 +59,18 @@ overLines g = sumBelow 4 g
 abbrev pub overBenefits : (Benefit → ℕ) → ℕ
 overBenefits g = g memberPension + g lumpSum + g survivorPension
 
+-- 3: a line's amount of a benefit times the line's factor for it, in hundredths of a penny; nothing is rounded here
+abbrev pub valuedAt : Factors → (Benefit → ℕ) → Benefit → ℕ
+valuedAt f amount b = amount b * factor b f
+
+-- 3: the same over all lines, each line's amount on that line's factors
+unfoldable pub valuedOn : (ℕ → Factors) → (ℕ → Benefit → ℕ) → Benefit → ℕ
+valuedOn f amount b = overLines (λ i. valuedAt (f i) (amount i) b)
+
 module _ (f : ℕ → Factors) (c : Case) where
-  -- the items over all lines
-  unfoldable pub item : Benefit → ℕ
-  item b = overLines (λ i. itemAt (c .revaluation) (f i) (line c i) b)
+  -- 3: the items, of the benefits that Scheme Pays has reduced
+  abbrev pub item : Benefit → ℕ
+  item = valuedOn f (λ i. reduced (c .revaluation) (line c i))
 
   unfoldable pub deduction : ℕ
   deduction = overLines (λ i. deductionAt (f i) (line c i))
@@ -68,9 +82,22 @@ module _ (f : ℕ → Factors) (c : Case) where
   unfoldable pub negativeFault : Bool
   negativeFault = ltb credit deduction
 
-  -- 4: the gross value: the total, where it is not below zero, rounded once to the penny
+  -- 4: the first value (change request No. 1's term), before any divorce debit: the total, where it is not below zero, rounded once
+  -- to the penny
+  unfoldable pub firstValue : ℕ
+  firstValue = nearest 100 (credit - deduction)
+
+  -- the debit value (001, 2.27; 003, 2.28), that of the divorce debit: over all benefits and lines, rounded once to the penny
+  unfoldable pub debitValue : ℕ
+  debitValue = nearest 100 (overBenefits (valuedOn f (λ i. revaluedDebit (c .revaluation) (line c i))))
+
+  -- the debit value is above the first value
+  unfoldable pub awardFault : Bool
+  awardFault = ltb firstValue debitValue
+
+  -- the gross value: the first value less the debit value, where that is not above it
   unfoldable pub grossBy : ℕ
-  grossBy = nearest 100 (credit - deduction)
+  grossBy = firstValue - debitValue
 
 -- Scheme Pays on a benefit of line l is above the revalued amount that it reduces
 abbrev pub exceeds : ℕ → Line → Benefit → Bool

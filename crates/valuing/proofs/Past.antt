@@ -14,9 +14,10 @@ use Rattle.refusals.specs.declared.Refusal.the-variants.{Kind, Reserved}
 use Rattle.refusals.proofs.Order.{none-given}
 use Rattle.cases.proofs.PastCount.{few-lines, zero-past, zero-amounts}
 use Rattle.sums.specs.Rows.{rowOf, factorsOf}
-use Rattle.sums.specs.Sum.{memberPension, lumpSum, entered, revalued, schemePaysExceeds}
+use Rattle.sums.specs.Sum.{memberPension, lumpSum, survivorPension, entered, revalued, revaluedDebit, schemePaysExceeds}
 use Rattle.valuing.specs.Totals.{TotalsBelow}
 use Rattle.valuing.specs.declared.sum.Totals.{Totals}
+use Rattle.valuing.proofs.Carried.{valued-more}
 
 module _ (c : Case) (well : WellFormed c) where
   pub four-at-most : c .count ≤ 4
@@ -35,11 +36,13 @@ module _ (c : Case) (well : WellFormed c) where
   unfolding factorsOf rowOf
   past i t h p b =
       let q = le-leb (c .count) i p in
+      let debit = valued-more c i revaluedDebit in
       record {
         pension = rw (sum-more, b .pension, q, mul-zero, add-zero);
         lump = rw (sum-more, b .lump, q, mul-zero, add-zero);
         survivor = rw (sum-more, b .survivor, q, mul-zero, add-zero);
         deduction = rw (sum-more, b .deduction, q, mul-zero, add-zero);
+        debit = rw (debit memberPension, debit lumpSum, debit survivorPension, b .debit, q) (simp (mul-zero, add-zero));
         missing = rw (any-more, b .missing, q, or-false);
         excess = rw (any-more, b .excess, no-scheme-pays i h p, or-false);
         bounded = omega (arith, b .bounded);

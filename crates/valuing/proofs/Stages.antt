@@ -5,14 +5,14 @@ use mathlib.Core.List.{List, [], _∷_, _++_}
 use mathlib.Core.Path.{_≡_, refl, sym, ap, _∙_}
 use Rattle.refusals.specs.Tests.{Test, _gives_, first, orElse}
 use Rattle.refusals.specs.declared.Refusal.{Refusal}
-use Rattle.refusals.specs.declared.Refusal.the-variants.{Range, Factor, Debit, Negative}
+use Rattle.refusals.specs.declared.Refusal.the-variants.{Range, Factor, Debit, Negative, Award}
 use Rattle.refusals.specs.declared.Verdict.{Verdict}
 use Rattle.refusals.specs.declared.Verdict.the-variants.{Passed, Refused as Refusing}
 use Rattle.refusals.proofs.Order.{first-append, first-none, none-given, first-past, first-stays}
 use Rattle.cases.specs.Form.{formTests, rangeFault, WellFormed}
 use Rattle.cases.specs.declared.Case.{Case}
 use Rattle.sums.specs.Rows.{factorsOf}
-use Rattle.sums.specs.Sum.{negativeFault, schemePaysFault}
+use Rattle.sums.specs.Sum.{negativeFault, awardFault, schemePaysFault}
 use Rattle.entitlement.specs.Entitlement.{entitlementTests}
 use Rattle.answers.specs.Answer.{factorFault, amountTests, tests, itemsOf, outcomeBy, answerOf}
 use Rattle.answers.specs.declared.Outcome.the-variants.{Paid, Refused}
@@ -33,20 +33,25 @@ by-stages c w v e =
     ∙ ap (λ (u : Verdict). outcomeBy u c)
     (sym (first-past (formTests false c) (entitlementTests c ++ amountTests c) w ∙ first-append (entitlementTests c) (amountTests c)))
 
--- the tests of amounts before the total is known, and the one on it
+-- the tests of amounts before the total is known, and those on it
 module _ (c : Case) where
   abbrev pub earlier : List Test
   earlier = (factorFault c gives Factor) ∷ (schemePaysFault c gives Debit) ∷ []
 
   abbrev last : List Test
-  last = (negativeFault (factorsOf c) c gives Negative) ∷ []
+  last = (negativeFault (factorsOf c) c gives Negative) ∷ (awardFault (factorsOf c) c gives Award) ∷ []
 
   pub by-earlier : (why : Refusal) → first earlier ≡ Refusing why → Refused why ≡ outcomeBy (first (amountTests c)) c
   by-earlier why e = ap (λ (v : Verdict). outcomeBy v c) (sym (first-stays earlier last e))
 
-  pub by-total : first earlier ≡ Passed → cond (negativeFault (factorsOf c) c) (Refused Negative) (Paid (itemsOf c)) ≡ outcomeBy (first (amountTests c)) c
-  by-total e = go (negativeFault (factorsOf c) c) ∙ ap (λ (v : Verdict). outcomeBy v c) (sym (first-past earlier last (first-none earlier e)))
+  pub by-total : first earlier ≡ Passed →
+      cond (negativeFault (factorsOf c) c) (Refused Negative) (cond (awardFault (factorsOf c) c) (Refused Award) (Paid (itemsOf c)))
+      ≡ outcomeBy (first (amountTests c)) c
+  by-total e =
+      go (negativeFault (factorsOf c) c) (awardFault (factorsOf c) c)
+      ∙ ap (λ (v : Verdict). outcomeBy v c) (sym (first-past earlier last (first-none earlier e)))
     where
-      go : (s : Bool) → cond s (Refused Negative) (Paid (itemsOf c)) ≡ outcomeBy (first ((s gives Negative) ∷ [])) c
-      go true = refl
-      go false = refl
+      go : (s t : Bool) → cond s (Refused Negative) (cond t (Refused Award) (Paid (itemsOf c))) ≡ outcomeBy (first ((s gives Negative) ∷ (t gives Award) ∷ [])) c
+      go true t = refl
+      go false true = refl
+      go false false = refl

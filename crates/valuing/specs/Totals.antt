@@ -14,7 +14,7 @@ use Rattle.factors.specs.Rows.{absent, found}
 use Rattle.factors.specs.declared.Factors.{Factors}
 use Rattle.factors.specs.declared.Row.{Row}
 use Rattle.sums.specs.Rows.{rowOf, factorsOf}
-use Rattle.sums.specs.Sum.{memberPension, lumpSum, survivorPension, itemAt, deductionAt, schemePaysExceeds}
+use Rattle.sums.specs.Sum.{Benefit, memberPension, lumpSum, survivorPension, reduced, revaluedDebit, valuedAt, deductionAt, overBenefits, schemePaysExceeds}
 use Rattle.valuing.specs.declared.sum.Totals.{Totals}
 use Rattle.valuing.specs.declared.sum.Rest.{Rest}
 use Rattle.valuing.specs.declared.sum.Rest.the-variants.{Left, Below}
@@ -30,19 +30,25 @@ pub record HeadInRange (c : Case) : Type 0 where
   pub transfer : c .transfer ≤ 1000000000
   pub contributions : c .contributions ≤ 1000000000
 
--- no amount of some totals is above n
+-- no amount of some totals is above n, but the divorce debit, which is the sum of three, may go to 3 * n
 pub record Bounded (n : ℕ) (t : Totals) : Type 0 where
   pub pension : t .pension ≤ n
   pub lump : t .lump ≤ n
   pub survivor : t .survivor ≤ n
   pub deduction : t .deduction ≤ n
+  pub debit : t .debit ≤ 3 * n
+
+-- what a line's divorce debit comes to
+abbrev pub debitAt : ℕ → Factors → Line → ℕ
+debitAt v f l = overBenefits (valuedAt f (revaluedDebit v l))
 
 -- the totals of one line
 pub record TotalsAt (v : ℕ) (f : Factors) (l : Line) (missing : Bool) (t : Totals) : Type 0 where
-  pub pension : t .pension ≡ itemAt v f l memberPension
-  pub lump : t .lump ≡ itemAt v f l lumpSum
-  pub survivor : t .survivor ≡ itemAt v f l survivorPension
+  pub pension : t .pension ≡ valuedAt f (reduced v l) memberPension
+  pub lump : t .lump ≡ valuedAt f (reduced v l) lumpSum
+  pub survivor : t .survivor ≡ valuedAt f (reduced v l) survivorPension
   pub deduction : t .deduction ≡ deductionAt f l
+  pub debit : t .debit ≡ debitAt v f l
   pub absent : t .absent ≡ missing
   pub excess : t .excess ≡ schemePaysExceeds v l
   pub bounded : Bounded 200000000000000 t
@@ -58,16 +64,22 @@ plusTotals a b =
       lump = a .lump + b .lump;
       survivor = a .survivor + b .survivor;
       deduction = a .deduction + b .deduction;
+      debit = a .debit + b .debit;
       absent = a .absent || b .absent;
       excess = a .excess || b .excess;
     }
 
+-- amounts of the lines below n, valued as `valuedOn` values those of all lines
+abbrev pub valuedBelow : ℕ → Case → (ℕ → Line → Benefit → ℕ) → Benefit → ℕ
+valuedBelow n c amount b = sumBelow n (λ i. valuedAt (factorsOf c i) (amount (c .revaluation) (line c i)) b)
+
 -- the totals of the lines below n
 pub record TotalsBelow (c : Case) (n : ℕ) (t : Totals) : Type 0 where
-  pub pension : t .pension ≡ sumBelow n (λ i. itemAt (c .revaluation) (factorsOf c i) (line c i) memberPension)
-  pub lump : t .lump ≡ sumBelow n (λ i. itemAt (c .revaluation) (factorsOf c i) (line c i) lumpSum)
-  pub survivor : t .survivor ≡ sumBelow n (λ i. itemAt (c .revaluation) (factorsOf c i) (line c i) survivorPension)
+  pub pension : t .pension ≡ valuedBelow n c reduced memberPension
+  pub lump : t .lump ≡ valuedBelow n c reduced lumpSum
+  pub survivor : t .survivor ≡ valuedBelow n c reduced survivorPension
   pub deduction : t .deduction ≡ sumBelow n (λ i. deductionAt (factorsOf c i) (line c i))
+  pub debit : t .debit ≡ overBenefits (valuedBelow n c revaluedDebit)
   pub missing : t .absent ≡ anyBelow n (λ i. absent (rowOf c i))
   pub excess : t .excess ≡ anyBelow n (λ i. schemePaysExceeds (c .revaluation) (line c i))
   pub bounded : Bounded (n * 200000000000000) t

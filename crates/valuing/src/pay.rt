@@ -1,11 +1,11 @@
-// Steps 5 and 6 of the sum, and the items.
+// From the totals to the payment: refusals 14 and 16, the first value, the debit value, steps 5 and 6 of the sum, and the items.
 ghost use mathlib.Core.Path.{_≡_};
 ghost use mathlib.Core.Bool.{cond, false};
 ghost use Prim.Native.Nat.{_+_, _≤_, _<_, _^_, max};
-ghost use Rattle.refusals.specs.declared.Refusal.the-variants.{Negative};
+ghost use Rattle.refusals.specs.declared.Refusal.the-variants.{Negative, Award};
 ghost use Rattle.cases.specs.Form.{rangeFault};
 ghost use Rattle.sums.specs.Rows.{factorsOf};
-ghost use Rattle.sums.specs.Sum.{negativeFault};
+ghost use Rattle.sums.specs.Sum.{negativeFault, firstValue, awardFault};
 ghost use Rattle.sums.specs.Payment as payment;
 ghost use Rattle.answers.specs.Answer.{itemsOf};
 ghost use Rattle.valuing.specs.Totals.{TotalsBelow};
@@ -50,21 +50,33 @@ fn pay(c: Case, gross: u64) -> u64
     with_avc(gross, underpin(c), c.avc)
 }
 
-// The payment with its items, or refusal 14.
+// Takes the divorce debit off the first value: the payment with its items, or refusal 16.
+fn after_divorce(c: Case, t: Totals, first_value: u64) -> Outcome
+    requires { ⌜ (rangeFault c ≡ false) × TotalsBelow c 4 t × («first_value» ≡ firstValue (factorsOf c) c) × («first_value» < 2 ^ 62) ⌝ }
+    ensures { λ r. ⌜ r ≡ cond (awardFault (factorsOf c) c) (Outcome.Refused Award) (Outcome.Paid (itemsOf c)) ⌝ }
+{
+    let debit_value = numbers::nearest(t.debit, 100);
+    if first_value < debit_value {
+        return Outcome::Refused(Refusal::Award);
+    }
+    Outcome::Paid(Items {
+        payment: pay(c, first_value - debit_value),
+        pension: t.pension,
+        lump: t.lump,
+        survivor: t.survivor,
+        deduction: t.deduction,
+        underpin: underpin(c),
+        avc: c.avc,
+    })
+}
+
+// Rounds the total to the first value: refusal 14 where it is below zero, else what the divorce debit leaves.
 pub(crate) fn priced(c: Case, t: Totals) -> Outcome
     requires { ⌜ (rangeFault c ≡ false) × TotalsBelow c 4 t ⌝ }
-    ensures { λ r. ⌜ r ≡ cond (negativeFault (factorsOf c) c) (Outcome.Refused Negative) (Outcome.Paid (itemsOf c)) ⌝ }
+    ensures { λ r. ⌜ r ≡ cond (negativeFault (factorsOf c) c) (Outcome.Refused Negative) (cond (awardFault (factorsOf c) c) (Outcome.Refused Award) (Outcome.Paid (itemsOf c))) ⌝ }
 {
     match take_off(t.pension + t.lump + t.survivor, t.deduction) {
         Rest::Below => Outcome::Refused(Refusal::Negative),
-        Rest::Left(total) => Outcome::Paid(Items {
-            payment: pay(c, numbers::nearest(total, 100)),
-            pension: t.pension,
-            lump: t.lump,
-            survivor: t.survivor,
-            deduction: t.deduction,
-            underpin: underpin(c),
-            avc: c.avc,
-        }),
+        Rest::Left(total) => after_divorce(c, t, numbers::nearest(total, 100)),
     }
 }

@@ -1,4 +1,4 @@
-// Steps 1 to 4 of the sum.
+// Steps 1 to 3 of the sum, the total of step 4, and the same of the divorce debit; nothing is rounded but revalued amounts.
 ghost use mathlib.Core.Path.{_≡_};
 ghost use Prim.Native.Nat.{_+_, _-_, _*_, _<_, _≤_, _^_};
 ghost use lib.Dec.{ltb};
@@ -7,7 +7,7 @@ ghost use Rattle.cases.specs.Form.{WellFormed};
 ghost use Rattle.factors.specs.Rows.{absent, found, Small};
 ghost use Rattle.factors.specs.Tables.{rowIn};
 ghost use Rattle.sums.specs.Sum.{revalued};
-ghost use Rattle.valuing.specs.Totals.{LineInRange, TotalsAt, TotalsBy, TotalsBelow, Bounded, plusTotals, restOf};
+ghost use Rattle.valuing.specs.Totals.{LineInRange, debitAt, TotalsAt, TotalsBy, TotalsBelow, Bounded, plusTotals, restOf};
 use calendar::Date;
 use cases::Case;
 use cases::Line;
@@ -17,12 +17,14 @@ use factors::Row;
 use factors::Table;
 use factors::row_in;
 
-// Items and deduction in hundredths of a penny, whether a row is absent, and whether Scheme Pays exceeds what it reduces.
+// Items, deduction and divorce debit in hundredths of a penny, whether a row is absent, and whether Scheme Pays exceeds what it
+// reduces.
 pub(crate) struct Totals {
     pub pension: u64,
     pub lump: u64,
     pub survivor: u64,
     pub deduction: u64,
+    pub debit: u64,
     pub absent: bool,
     pub excess: bool,
 }
@@ -72,11 +74,11 @@ fn revalue(x: u64, v: u32) -> u64
 }
 
 // Pence times a factor in hundredths.
-fn times(reduced: u64, factor: u64) -> u64
-    requires { ⌜ (reduced ≤ 20000000000) × (factor ≤ 9999) ⌝ }
-    ensures { λ r. ⌜ (r ≡ reduced * factor) × (r ≤ 200000000000000) ⌝ }
+fn times(pence: u64, factor: u64) -> u64
+    requires { ⌜ (pence ≤ 20000000000) × (factor ≤ 9999) ⌝ }
+    ensures { λ r. ⌜ (r ≡ pence * factor) × (r ≤ 200000000000000) ⌝ }
 {
-    reduced * factor
+    pence * factor
 }
 
 fn item_of(entered: u64, scheme_pays: u64, v: u32, factor: u64) -> Item
@@ -97,6 +99,27 @@ fn item_of(entered: u64, scheme_pays: u64, v: u32, factor: u64) -> Item
     }
 }
 
+// What a line's divorce debit comes to on the line's factors.
+fn debit_of(l: Line, v: u32, f: Factors) -> u64
+    requires { ⌜ LineInRange l × (v ≤ 100000) × Small f ⌝ }
+    ensures { λ r. ⌜ (r ≡ debitAt v f l) × (r ≤ 600000000000000) ⌝ }
+{
+    times(revalue(l.debit_pension, v), f.pension)
+        + times(revalue(l.debit_lump, v), f.lump)
+        + times(revalue(l.debit_survivor, v), f.survivor)
+}
+
+// The same, worked out only where there is one: few members have one.
+fn debit_if_any(l: Line, v: u32, f: Factors) -> u64
+    requires { ⌜ LineInRange l × (v ≤ 100000) × Small f ⌝ }
+    ensures { λ r. ⌜ (r ≡ debitAt v f l) × (r ≤ 600000000000000) ⌝ }
+{
+    if l.debit_pension + l.debit_lump + l.debit_survivor == 0 {
+        return 0;
+    }
+    debit_of(l, v, f)
+}
+
 // The totals of one line.
 fn line_totals(l: Line, v: u32, f: Factors, missing: bool) -> Totals
     requires { ⌜ LineInRange l × (v ≤ 100000) × Small f ⌝ }
@@ -110,6 +133,7 @@ fn line_totals(l: Line, v: u32, f: Factors, missing: bool) -> Totals
         lump: lump.amount,
         survivor: survivor.amount,
         deduction: l.modification * f.deduction,
+        debit: debit_if_any(l, v, f),
         absent: missing,
         excess: pension.excess | lump.excess,
     }
@@ -133,6 +157,7 @@ fn plus(a: Totals, b: Totals) -> Totals
         lump: a.lump + b.lump,
         survivor: a.survivor + b.survivor,
         deduction: a.deduction + b.deduction,
+        debit: a.debit + b.debit,
         absent: a.absent | b.absent,
         excess: a.excess | b.excess,
     }
@@ -151,6 +176,7 @@ pub(crate) fn case_totals(c: Case) -> Totals
         lump: 0,
         survivor: 0,
         deduction: 0,
+        debit: 0,
         absent: false,
         excess: false,
     };

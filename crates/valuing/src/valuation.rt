@@ -14,7 +14,7 @@ use refusals::Refusal;
 use refusals::Verdict;
 use refusals::refuse_if;
 
-// The first of refusals 12 to 14 that applies, or the payment.
+// The first of refusals 12 to 14 and 16 that applies, or the payment.
 fn value_amounts(c: Case) -> Outcome
     requires { ⌜ WellFormed c ⌝ }
     ensures { λ r. ⌜ r ≡ outcomeBy (first (amountTests c)) c ⌝ }

@@ -1,8 +1,8 @@
 // Reads cases from standard input, each a record of 64-bit numbers, low byte first, in block order: the fields before the lines,
-// then each line's date and its amounts. A date is year + 65536 × month + 16777216 × day. Each number is cut to the
-// width of its field, and the case is valued as it stands, without reading a block. Prints a line for each: its place from
-// 1, the case number, and the payment with its items as whole numbers (payment, underpin and AVC in pence, the others in
-// hundredths of a penny) or the refusal.
+// then each line's date and its amounts, then each line's divorce debit. A date is year + 65536 × month + 16777216 × day. Each
+// number is cut to the width of its field, and the case is valued as it stands, without reading a block. Prints a line for each:
+// its place from 1, the case number, and the payment with its items as whole numbers (payment, underpin and AVC in pence, the
+// others in hundredths of a penny) or the refusal.
 use answers::Items;
 use answers::Outcome;
 use calendar::Date;
@@ -12,12 +12,17 @@ use libc::STDIN_FILENO;
 use libc::STDOUT_FILENO;
 use refusals::Refusal;
 
-// The bytes of a record: 15 numbers before the lines, and for each of four lines its date and its eight amounts.
+// The bytes of a record: 15 numbers before the lines, for each of four lines its date and its eight amounts, and then for each the
+// three amounts of its divorce debit.
 const HEAD: usize = 15 * 8;
 
 const LINE: usize = 9 * 8;
 
-const RECORD: usize = HEAD + 4 * LINE;
+const DIVORCE_DEBIT: usize = 3 * 8;
+
+const DEBITS_AT: usize = HEAD + 4 * LINE;
+
+const RECORD: usize = DEBITS_AT + 4 * DIVORCE_DEBIT;
 
 fn u8_of(n: u64) -> u8 {
     (n % 256) as u8
@@ -39,7 +44,7 @@ fn date(n: u64) -> Date {
     }
 }
 
-fn line(b: &[u8]) -> Line {
+fn line(b: &[u8], debit: &[u8]) -> Line {
     Line {
         date: date(buffers::u64_at(b, 0)),
         pension: buffers::u64_at(b, 8),
@@ -50,6 +55,9 @@ fn line(b: &[u8]) -> Line {
         modification: buffers::u64_at(b, 48),
         scheme_pays: buffers::u64_at(b, 56),
         scheme_pays_lump: buffers::u64_at(b, 64),
+        debit_pension: buffers::u64_at(debit, 0),
+        debit_survivor: buffers::u64_at(debit, 8),
+        debit_lump: buffers::u64_at(debit, 16),
     }
 }
 
@@ -126,10 +134,10 @@ fn print_outcome(place: u64, number: u32, r: Outcome) {
 fn print_case(place: u64, b: &[u8]) {
     if b.len() == RECORD {
         let lines = [
-            line(&b[HEAD..]),
-            line(&b[HEAD + LINE..]),
-            line(&b[HEAD + 2 * LINE..]),
-            line(&b[HEAD + 3 * LINE..]),
+            line(&b[HEAD..], &b[DEBITS_AT..]),
+            line(&b[HEAD + LINE..], &b[DEBITS_AT + DIVORCE_DEBIT..]),
+            line(&b[HEAD + 2 * LINE..], &b[DEBITS_AT + 2 * DIVORCE_DEBIT..]),
+            line(&b[HEAD + 3 * LINE..], &b[DEBITS_AT + 3 * DIVORCE_DEBIT..]),
         ];
         let c = case_of(b, lines);
         print_outcome(place, c.number, valuing::value(c));

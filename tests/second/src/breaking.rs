@@ -1,13 +1,14 @@
 //! Ways to break one rule of a block that is otherwise acceptable, each with the refusal that it calls for.
 
+use crate::divorce::*;
 use crate::generator::*;
 use crate::model::*;
 use crate::random::Random;
 
 type Break = fn(&Model, &mut Random, &mut Block);
 
-/// Refusals 3 to 14 and 17 in the order in which they are tested. Where two are applied, the later refusal's goes first, so that
-/// the earlier one stays broken.
+/// Refusals 3 to 14, 16 and 17 in the order in which they are tested. Where two are applied, the later refusal's goes
+/// first, so that the earlier one stays broken.
 pub const BREAKS: &[(Refusal, &str, Break)] = &[
     (3, "kind not listed", kind_not_listed),
     (3, "count not allowed", count_not_allowed),
@@ -18,10 +19,13 @@ pub const BREAKS: &[(Refusal, &str, Break)] = &[
     (4, "transfer-in payment without flag", transfer_in_without_flag),
     (4, "field of the other kind", field_of_other_kind),
     (4, "additional amount past line 1", additional_past_line_1),
+    (4, "divorce debit past the count", divorce_debit_past_count),
+    (4, "divorce debit lump sum in kind 2", divorce_lump_in_kind_2),
     (5, "case number", case_number),
     (5, "status code", status_code),
     (5, "receiving code", receiving_code),
     (5, "amount", amount_too_large),
+    (5, "divorce debit", divorce_debit_too_large),
     (5, "revaluation", revaluation_range),
     (5, "date", date_not_real),
     (6, "birth not before leaving", birth_not_before_leaving),
@@ -40,7 +44,11 @@ pub const BREAKS: &[(Refusal, &str, Break)] = &[
     (10, "refer, a day before pension age", refer_before_pension_age),
     (12, "factor", no_row),
     (13, "debit", debit_above),
+    (13, "debit, and award", debit_above_and_award),
     (14, "negative", total_below_zero),
+    (14, "negative, and award", below_zero_and_award),
+    (16, "award", put_award),
+    (16, "award, however large the underpin", award_and_underpin),
 ];
 
 fn kind_not_listed(_: &Model, random: &mut Random, block: &mut Block) {
@@ -79,7 +87,7 @@ fn unnamed_byte(model: &Model, random: &mut Random, block: &mut Block) {
     let offset = match random.below(4) {
         0 => random.pick(&[2, 3, 14, 15, 36, 37, 38, 39]),
         1 => random.pick(&at::LINES) + random.between(4, 7) as usize,
-        2 => random.pick(&[352, 353, 506, 507]),
+        2 => random.pick(&[448, 449, 506, 507]),
         _ => random.pick(model.unnamed_bytes()),
     };
     block.put(offset, 1, nonzero_byte(random));
@@ -98,8 +106,21 @@ fn line_past_count(model: &Model, random: &mut Random, block: &mut Block) {
     match random.below(3) {
         0 => block.put(start + random.below(72) as usize, 1, nonzero_byte(random)),
         1 => block.put_date(start + at::DATE, date(2030, 6, 1)),
-        _ => block.put(start + random.pick(&at::AMOUNTS), 8, nonzero_amount(random)),
+        _ => block.put_amount(start, random.pick(&at::AMOUNTS), nonzero_amount(random)),
     }
+}
+
+fn divorce_debit_past_count(model: &Model, random: &mut Random, block: &mut Block) {
+    let count = block.count();
+    if count >= 4 {
+        return unnamed_byte(model, random, block);
+    }
+    let place = random.between(count as i64, 3) as usize;
+    if random.one_in(2) {
+        let byte = random.at_edges(0, at::GROUP_LENGTH as i64 - 1) as usize;
+        return block.put(at::GROUPS[place] + byte, 1, nonzero_byte(random));
+    }
+    block.put_amount(at::LINES[place], random.pick(&at::DIVORCE), nonzero_amount(random));
 }
 
 fn state_pension_without_flag(_: &Model, random: &mut Random, block: &mut Block) {
@@ -120,8 +141,7 @@ fn transfer_in_without_flag(_: &Model, random: &mut Random, block: &mut Block) {
 fn field_of_other_kind(_: &Model, random: &mut Random, block: &mut Block) {
     if block.kind() == 2 {
         let start = block.some_line(random);
-        let field = random.pick(&[at::LUMP, at::MODIFICATION, at::LUMP_DEBIT]);
-        return block.put(start + field, 8, nonzero_amount(random));
+        return block.put_amount(start, random.pick(&at::ONLY_KIND_1), nonzero_amount(random));
     }
     match random.below(4) {
         0 => block.set_flag(TRANSFERRED_IN, true),
@@ -131,13 +151,21 @@ fn field_of_other_kind(_: &Model, random: &mut Random, block: &mut Block) {
     }
 }
 
+fn divorce_lump_in_kind_2(model: &Model, random: &mut Random, block: &mut Block) {
+    if block.kind() != 2 {
+        *block = acceptable_kind_2(model, random);
+    }
+    let start = block.some_line(random);
+    block.put_amount(start, at::DEBIT_LUMP, nonzero_amount(random));
+}
+
 fn additional_past_line_1(model: &Model, random: &mut Random, block: &mut Block) {
     if block.kind() != 2 || block.count() < 2 {
         return line_past_count(model, random, block);
     }
     let last = block.count().min(4);
     let start = random.pick(&at::LINES[1..last]);
-    block.put(start + random.pick(&[at::ADDITIONAL, at::DEPENDANT]), 8, nonzero_amount(random));
+    block.put_amount(start, random.pick(&at::ONLY_LINE_1), nonzero_amount(random));
 }
 
 fn case_number(_: &Model, _: &mut Random, block: &mut Block) {
@@ -154,28 +182,36 @@ fn receiving_code(_: &Model, random: &mut Random, block: &mut Block) {
     block.put(at::RECEIVER, 1, receiver as u64);
 }
 
-fn amount_too_large(_: &Model, random: &mut Random, block: &mut Block) {
-    let amount = match random.below(4) {
+fn too_large(random: &mut Random) -> u64 {
+    match random.below(4) {
         0 => LARGEST_AMOUNT + 1,
         1 => u64::MAX - random.below(3),
         2 => 1 << random.between(30, 63),
         _ => LARGEST_AMOUNT + 1 + random.below(u64::MAX - LARGEST_AMOUNT),
-    };
+    }
+}
+
+fn amount_too_large(_: &Model, random: &mut Random, block: &mut Block) {
     let mut fields = vec![at::AVC];
     if block.flag(TRANSFERRED_IN) {
         fields.push(at::TRANSFER_IN);
     }
     let start = block.some_line(random);
-    let of_line: &[usize] = match (block.kind(), start == at::LINES[0]) {
-        (1, _) => &at::AMOUNTS,
-        (_, true) => &[at::PENSION, at::ADDITIONAL, at::SURVIVOR, at::DEPENDANT, at::DEBIT],
-        (_, false) => &[at::PENSION, at::SURVIVOR, at::DEBIT],
+    let allowed = |field: &usize| {
+        (block.kind() == 1 || !at::ONLY_KIND_1.contains(field))
+            && (start == at::LINES[0] || !at::ONLY_LINE_1.contains(field))
     };
     if block.kind() == 2 {
         fields.push(at::CONTRIBUTIONS);
     }
-    fields.extend(of_line.iter().map(|field| start + field));
-    block.put(random.pick(&fields), 8, amount);
+    fields.extend(at::AMOUNTS.into_iter().filter(allowed).map(|field| at::amount(start, field)));
+    block.put(random.pick(&fields), 8, too_large(random));
+}
+
+fn divorce_debit_too_large(_: &Model, random: &mut Random, block: &mut Block) {
+    let start = block.some_line(random);
+    let fields: &[usize] = if block.kind() == 1 { &at::DIVORCE } else { &[at::DEBIT_PENSION, at::DEBIT_SURVIVOR] };
+    block.put_amount(start, random.pick(fields), too_large(random));
 }
 
 fn revaluation_range(_: &Model, random: &mut Random, block: &mut Block) {
@@ -245,8 +281,8 @@ fn line_1_early(model: &Model, random: &mut Random, block: &mut Block) {
         }
     }
     let birthday = moved_on(block.get_date(at::BIRTH), 65).min(last_day() + 1);
-    let earliest = (birthday - 4_000).max(first_day());
-    block.put_day(at::LINES[0] + at::DATE, random.at_edges(earliest, birthday - 1));
+    let any = random.at_edges((birthday - 4_000).max(first_day()), birthday - 1);
+    block.put_day(at::LINES[0] + at::DATE, random.pick(&[any, birthday - 1]));
 }
 
 fn other_line_late(model: &Model, random: &mut Random, block: &mut Block) {
@@ -367,7 +403,7 @@ fn debit_above(_: &Model, random: &mut Random, block: &mut Block) {
     let start = block.some_line(random);
     let lump = block.kind() == 1 && random.one_in(2);
     let (benefits, debit): (&[usize], usize) =
-        if lump { (&[at::LUMP], at::LUMP_DEBIT) } else { (&[at::PENSION, at::ADDITIONAL], at::DEBIT) };
+        if lump { (&[at::LUMP], at::SCHEME_PAYS_LUMP) } else { (&[at::PENSION, at::ADDITIONAL], at::SCHEME_PAYS) };
     let reduced = |block: &Block| {
         if lump {
             block.revalued_lump(start)
@@ -378,14 +414,19 @@ fn debit_above(_: &Model, random: &mut Random, block: &mut Block) {
     if reduced(block) >= LARGEST_AMOUNT as i128 {
         // No debit in range is above these, so they are made small.
         for field in benefits {
-            block.put(start + field, 8, random.below(1_000));
+            block.put_amount(start, *field, random.below(1_000));
         }
         if start != at::LINES[0] {
-            block.put(start + at::ADDITIONAL, 8, 0);
+            block.put_amount(start, at::ADDITIONAL, 0);
         }
     }
     let least = reduced(block) as i64 + 1;
-    block.put(start + debit, 8, random.at_edges(least, LARGEST_AMOUNT as i64) as u64);
+    block.put_amount(start, debit, random.at_edges(least, LARGEST_AMOUNT as i64) as u64);
+}
+
+fn debit_above_and_award(model: &Model, random: &mut Random, block: &mut Block) {
+    put_award(model, random, block);
+    debit_above(model, random, block);
 }
 
 fn total_below_zero(model: &Model, random: &mut Random, block: &mut Block) {
@@ -417,4 +458,27 @@ fn total_below_zero(model: &Model, random: &mut Random, block: &mut Block) {
         }
     }
     block.put(modification, 8, random.at_edges(refused as i64, LARGEST_AMOUNT as i64) as u64);
+}
+
+/// Any debit value is above a total below zero.
+fn below_zero_and_award(model: &Model, random: &mut Random, block: &mut Block) {
+    if block.kind() != 1 {
+        *block = acceptable_kind_1(model, random);
+    }
+    put_award(model, random, block);
+    total_below_zero(model, random, block);
+}
+
+/// An underpin above the first value, or above the debit value as well, does not save the case.
+fn award_and_underpin(model: &Model, random: &mut Random, block: &mut Block) {
+    if block.kind() != 2 {
+        *block = acceptable_kind_2(model, random);
+    }
+    put_small_benefits(random, block);
+    put_award(model, random, block);
+    let sums = model.items(&case_of(&block.0)).unwrap();
+    let least = random.pick(&[first_value(&sums), debit_value(&sums)]).min(LARGEST_AMOUNT as i128);
+    block.set_flag(TRANSFERRED_IN, true);
+    block.put(at::TRANSFER_IN, 8, random.at_edges(least as i64, LARGEST_AMOUNT as i64) as u64);
+    block.put(at::CONTRIBUTIONS, 8, random.at_edges(1, LARGEST_AMOUNT as i64) as u64);
 }

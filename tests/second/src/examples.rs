@@ -28,7 +28,7 @@ pub fn member(kind: u64, number: u64, birth: Date, leaving: Date, guarantee: Dat
 /// Amounts in pence on a line counted from 1.
 pub fn put_line(block: &mut Block, line: usize, amounts: &[(usize, u64)]) {
     for &(field, pence) in amounts {
-        block.put(at::LINES[line - 1] + field, 8, pence);
+        block.put_amount(at::LINES[line - 1], field, pence);
     }
 }
 

@@ -87,7 +87,9 @@ fn with_service(months: u64) -> Block {
     block
 }
 
+const A_ITEMS: &str = "pension 117921.6000 lump 14364.0000 survivor 4817.9250 deduct 234.6000";
 const B_ITEMS: &str = "pension 24704.5500 lump 0.0000 survivor 1196.2552 deduct 0.0000";
+const D_ITEMS: &str = "pension 100090.0000 lump 0.0000 survivor 4755.3750 deduct 0.0000";
 
 fn of_the_sum() -> Vec<(Block, String)> {
     let b = |paid: &str, underpin: &str| format!("1 2 pay {paid} {B_ITEMS} underpin {underpin} avc 0.00");
@@ -104,10 +106,10 @@ fn of_the_sum() -> Vec<(Block, String)> {
             text("1 1 pay 1.82 pension 1.8050 lump 0.0000 survivor 0.0150 deduct 0.0000 underpin 0.00 avc 0.00"),
         ),
         (
-            aged_54(10_000, &[(at::PENSION, 100), (at::DEBIT, 100)]),
+            aged_54(10_000, &[(at::PENSION, 100), (at::SCHEME_PAYS, 100)]),
             text("1 1 pay 0.00 pension 0.0000 lump 0.0000 survivor 0.0000 deduct 0.0000 underpin 0.00 avc 0.00"),
         ),
-        (aged_54(10_000, &[(at::PENSION, 100), (at::DEBIT, 101)]), text("1 1 refused 13 debit")),
+        (aged_54(10_000, &[(at::PENSION, 100), (at::SCHEME_PAYS, 101)]), text("1 1 refused 13 debit")),
         (aged_54(10_000, &[(at::MODIFICATION, 1)]), text("1 1 refused 14 negative")),
         (with_underpin(2_000_000, 590_081), b("25900.81", "25900.81")),
         (with_underpin(2_000_000, 590_082), b("25900.82", "25900.82")),
@@ -205,6 +207,121 @@ fn of_the_order_of_lines() -> Vec<(Block, String)> {
     ]
 }
 
+/// The block with these divorce debits on a line counted from 1.
+fn less(mut block: Block, line: usize, debits: &[(usize, u64)]) -> Block {
+    put_line(&mut block, line, debits);
+    block
+}
+
+/// Examples A of 001, B and D of 003 with divorce debits. What is printed but the payment is theirs.
+fn of_divorced_members() -> Vec<(Block, String)> {
+    let a = |paid: &str| format!("1 1 pay {paid} {A_ITEMS} underpin 0.00 avc 0.00");
+    let b = |paid: &str, underpin: &str| format!("1 2 pay {paid} {B_ITEMS} underpin {underpin} avc 0.00");
+    let d = |paid: &str| format!("1 5 pay {paid} {D_ITEMS} underpin 0.00 avc 0.00");
+    let refused = || String::from("1 2 refused 16 award");
+    let halves = [(at::DEBIT_PENSION, 250_000), (at::DEBIT_SURVIVOR, 125_000), (at::DEBIT_LUMP, 750_000)];
+    let all_but = |pence: u64| [(at::DEBIT_PENSION, 250_000), (at::DEBIT_SURVIVOR, 84_375 - pence)];
+    let above = [(at::DEBIT_PENSION, 250_000), (at::DEBIT_SURVIVOR, 84_376)];
+    let half_pension = [(at::DEBIT_PENSION, 125_000)];
+    let fifty_pence = [(at::DEBIT_SURVIVOR, 50)];
+    vec![
+        // 285,000 x 17.24 = 4,913,400; 142,500 x 1.47 = 209,475; 855,000 x 0.84 = 718,200; together 5,841,075.
+        // 13,686,893 - 5,841,075 = 7,845,818.
+        (less(a_of_001(), 1, &halves), a("78458.18")),
+        // 1p at 1.1400 is 1p, x 1.47 = 1.47, so 1: 13,686,893 - 1. Before its rounding it is 13,686,892.5 - 1.47 = 13,686,891.03.
+        (less(a_of_001(), 1, &[(at::DEBIT_SURVIVOR, 1)]), a("136868.92")),
+        // 125,000 at 1.0660 is 133,250, x 9.27 = 1,235,227.5, so 1,235,228. 2,590,081 - 1,235,228 = 1,354,853.
+        (less(b_of_003(), 1, &half_pension), b("13548.53", "0.00")),
+        // The whole: 266,500 x 9.27 + 89,944 x 1.33 = 2,470,455 + 119,625.52 = 2,590,080.52, so 2,590,081, and nothing is left.
+        (less(b_of_003(), 1, &all_but(0)), b("0.00", "0.00")),
+        // 84,374 at 1.0660 is 89,942.684, so 89,943, x 1.33 = 119,624.19: 2,590,079.19, so 2,590,079.
+        (less(b_of_003(), 1, &all_but(1)), b("0.02", "0.00")),
+        // 84,376 at 1.0660 is 89,944.816, so 89,945, x 1.33 = 119,626.85: 2,590,081.85, so 2,590,082, a penny too much.
+        (less(b_of_003(), 1, &above), refused()),
+        // An underpin is compared with what is left, and does not save a case that is refused.
+        (less(with_underpin(1_354_853, 0), 1, &half_pension), b("13548.53", "13548.53")),
+        (less(with_underpin(1_354_853, 1), 1, &half_pension), b("13548.54", "13548.54")),
+        (less(with_underpin(2_000_000, 590_082), 1, &above), refused()),
+        // 50 x 1.31 + 50 x 1.33 = 65.5 + 66.5 = 132; by lines it would be 66 + 67. 10,484,538 - 132 = 10,484,406.
+        (less(less(d_of_003(), 1, &fifty_pence), 2, &fifty_pence), d("104844.06")),
+        // On line 3's factor: 275,000 x 9.84 = 2,706,000. 10,484,538 - 2,706,000 = 7,778,538.
+        (less(d_of_003(), 3, &[(at::DEBIT_PENSION, 275_000)]), d("77785.38")),
+    ]
+}
+
+/// Small divorce debits at the edges of the sum and of its refusals, most of a member aged 54: 18.05, 0.88, 1.50 and 12.42.
+fn of_divorce_debits() -> Vec<(Block, String)> {
+    let paid = |pounds: &str, items: &str| format!("1 1 pay {pounds} {items} underpin 0.00 avc 0.00");
+    let pension_only = |pounds: &str, pension: &str| {
+        paid(pounds, &format!("pension {pension} lump 0.0000 survivor 0.0000 deduct 0.0000"))
+    };
+    let p182_items = "pension 1.8050 lump 0.0000 survivor 0.0150 deduct 0.0000";
+    let refused = |refusal: &str| format!("1 1 refused {refusal}");
+    let p182 = aged_54(10_000, &[(at::PENSION, 10), (at::SURVIVOR, 1)]);
+    let aged_22 = |debit_lump| less(born(date(1998, 1, 1), date(2020, 2, 1)), 1, &[(at::DEBIT_LUMP, debit_lump)]);
+    let p60 = aged_54(10_000, &[(at::PENSION, 100), (at::SCHEME_PAYS, 40)]);
+    vec![
+        // 180.5p is 181p, of 182p. With 1.5p more it is 182p as a whole; each rounded would be 183p.
+        (less(p182.clone(), 1, &[(at::DEBIT_PENSION, 10)]), paid("0.01", p182_items)),
+        (less(p182, 1, &[(at::DEBIT_PENSION, 10), (at::DEBIT_SURVIVOR, 1)]), paid("0.00", p182_items)),
+        // 1p at 1.5000 is 2p: 36.1p less 2 x 1.50 = 3p.
+        (aged_54(15_000, &[(at::PENSION, 1), (at::DEBIT_SURVIVOR, 1)]), pension_only("0.33", "0.3610")),
+        // Factors 8.93 and 0.41: 0.41p is nothing, 0.82p a penny.
+        (aged_22(1), pension_only("8.93", "8.9300")),
+        (aged_22(2), pension_only("8.92", "8.9300")),
+        // Scheme Pays is in the first value: 60 x 18.05 = 1,083p, the whole debit; 61 x 18.05 = 1,101.05p.
+        (less(p60.clone(), 1, &[(at::DEBIT_PENSION, 60)]), pension_only("0.00", "10.8300")),
+        (less(p60, 1, &[(at::DEBIT_PENSION, 61)]), refused("16 award")),
+        // So is the modification: 1,805p - 50 x 12.42 = 1,184p, less 50 x 18.05 = 902.5p, so 903p.
+        (
+            aged_54(10_000, &[(at::PENSION, 100), (at::MODIFICATION, 50), (at::DEBIT_PENSION, 50)]),
+            paid("2.81", "pension 18.0500 lump 0.0000 survivor 0.0000 deduct 6.2100"),
+        ),
+        (aged_54(10_000, &[(at::PENSION, 100), (at::SCHEME_PAYS, 101), (at::DEBIT_PENSION, 200)]), refused("13 debit")),
+        (aged_54(10_000, &[(at::MODIFICATION, 1), (at::DEBIT_PENSION, 1)]), refused("14 negative")),
+        // 0.88p is a penny, and the first value is 0.
+        (aged_54(10_000, &[(at::DEBIT_LUMP, 1)]), refused("16 award")),
+        (
+            aged_54(10_000, &[(at::PENSION, LARGEST_AMOUNT), (at::DEBIT_PENSION, LARGEST_AMOUNT)]),
+            pension_only("0.00", "180500000.0000"),
+        ),
+    ]
+}
+
+/// The block with one byte set to 1.
+fn with_byte(mut block: Block, offset: usize) -> Block {
+    block.put(offset, 1, 1);
+    block
+}
+
+/// Where divorce debits may stand, and how large they may be.
+fn of_reading_divorce_debits() -> Vec<(Block, String)> {
+    let refused = |refusal: &str| format!("1 0 refused {refusal}");
+    let aged_54 = || aged_54(10_000, &[(at::PENSION, 100)]);
+    let too_large = [(at::DEBIT_PENSION, LARGEST_AMOUNT + 1)];
+    vec![
+        (less(aged_54(), 1, &too_large), refused("5 range")),
+        (less(b_of_003(), 1, &too_large), refused("5 range")),
+        (less(aged_54(), 2, &[(at::DEBIT_PENSION, 1)]), refused("4 reserved")),
+        (less(b_of_003(), 2, &[(at::DEBIT_SURVIVOR, 1)]), refused("4 reserved")),
+        (less(d_of_003(), 4, &[(at::DEBIT_PENSION, 1)]), refused("4 reserved")),
+        (less(b_of_003(), 1, &[(at::DEBIT_LUMP, 1)]), refused("4 reserved")),
+        (less(d_of_003(), 3, &[(at::DEBIT_LUMP, 1)]), refused("4 reserved")),
+        // Byte 352 is 1p of debit pension on line 1: 18.05p of 1,805p, so 18p.
+        (
+            with_byte(aged_54(), 352),
+            "1 1 pay 17.87 pension 18.0500 lump 0.0000 survivor 0.0000 deduct 0.0000 underpin 0.00 avc 0.00".into(),
+        ),
+        (with_byte(aged_54(), 375), refused("5 range")),
+        (with_byte(aged_54(), 376), refused("4 reserved")),
+        (with_byte(d_of_003(), 423), refused("4 reserved")),
+        (with_byte(d_of_003(), 447), refused("4 reserved")),
+        (with_byte(aged_54(), 447), refused("4 reserved")),
+        (with_byte(aged_54(), 448), refused("4 reserved")),
+        (with_byte(aged_54(), 507), refused("4 reserved")),
+    ]
+}
+
 /// The examples' lines, from the file that the program's test is held to as well.
 fn of_the_notes() -> Vec<(Block, String)> {
     let lines = include_str!("../../examples/expected.txt").lines();
@@ -227,6 +344,7 @@ pub fn try_figures(model: &Model) -> Result<usize, String> {
     figures.extend(
         of_the_sum().into_iter().chain(of_the_calendar()).chain(of_the_order_of_tests()).chain(of_the_order_of_lines()),
     );
+    figures.extend(of_divorced_members().into_iter().chain(of_divorce_debits()).chain(of_reading_divorce_debits()));
     for (block, line) in &figures {
         let block = sealed(block.clone());
         let place: u32 = line.split(' ').next().unwrap().parse().unwrap();

@@ -1,5 +1,6 @@
 //! Blocks to compare: acceptable ones at the edges of the ranges and rules, broken ones, damaged and random ones.
 
+use crate::divorce::put_divorce_debits;
 use crate::model::*;
 use crate::random::Random;
 
@@ -64,13 +65,30 @@ impl Block {
         at::LINES[random.below(self.count().clamp(1, 4) as u64) as usize]
     }
 
+    /// An amount of the line that starts here.
+    pub fn amount(&self, start: usize, field: usize) -> u64 {
+        self.get(at::amount(start, field), 8)
+    }
+
+    pub fn put_amount(&mut self, start: usize, field: usize, pence: u64) {
+        self.put(at::amount(start, field), 8, pence);
+    }
+
     pub fn revalued_pension(&self, start: usize) -> i128 {
-        let sum = self.get(start + at::PENSION, 8) + self.get(start + at::ADDITIONAL, 8);
+        let sum = self.amount(start, at::PENSION) + self.amount(start, at::ADDITIONAL);
         revalued(sum, self.revaluation())
     }
 
     pub fn revalued_lump(&self, start: usize) -> i128 {
-        revalued(self.get(start + at::LUMP, 8), self.revaluation())
+        revalued(self.amount(start, at::LUMP), self.revaluation())
+    }
+
+    pub fn clear_divorce_debits(&mut self) {
+        for start in at::LINES {
+            for field in at::DIVORCE {
+                self.put_amount(start, field, 0);
+            }
+        }
     }
 
     /// Writes the check.
@@ -98,7 +116,7 @@ fn amount_at_half(random: &mut Random, revaluation: u64) -> u64 {
     inverse * target % 10_000 + 10_000 * random.below(99_999)
 }
 
-fn amount(random: &mut Random, revaluation: u64) -> u64 {
+pub fn amount(random: &mut Random, revaluation: u64) -> u64 {
     match random.below(12) {
         0 => 0,
         1 => 1,
@@ -122,8 +140,8 @@ fn revaluation(random: &mut Random) -> u64 {
     }
 }
 
-/// A debit not above the amount it reduces, that amount itself often.
-fn debit(random: &mut Random, reduced: i128) -> u64 {
+/// A Scheme Pays debit not above the amount it reduces, that amount itself often.
+fn scheme_pays(random: &mut Random, reduced: i128) -> u64 {
     let most = reduced.min(LARGEST_AMOUNT as i128) as i64;
     if random.one_in(3) {
         0
@@ -179,9 +197,11 @@ fn put_dates_kind_1(random: &mut Random, block: &mut Block) {
     put_leaving(random, block);
 }
 
-/// The factors on the first line and the signed total, whether or not it is below zero.
+/// The factors on the first line and the signed total, whether or not it is below zero. Divorce debits are no part of it.
 fn first_factors_and_total(model: &Model, block: &Block) -> Option<(Factors, i128)> {
-    let mut case = case_of(&block.0);
+    let mut without_debits = block.clone();
+    without_debits.clear_divorce_debits();
+    let mut case = case_of(&without_debits.0);
     let factors = model.factors(&case, &case.lines[0])?;
     let modification = case.lines[0].modification as i128;
     case.lines[0].modification = 0;
@@ -191,12 +211,12 @@ fn first_factors_and_total(model: &Model, block: &Block) -> Option<(Factors, i12
 
 /// A modification up to the largest that leaves nothing below zero.
 fn put_modification(model: &Model, random: &mut Random, block: &mut Block) {
-    let field = at::LINES[0] + at::MODIFICATION;
-    block.put(field, 8, 0);
+    let line = at::LINES[0];
+    block.put_amount(line, at::MODIFICATION, 0);
     let (factors, credit) = first_factors_and_total(model, block).unwrap();
     let most = (credit / factors.deduct).min(LARGEST_AMOUNT as i128) as i64;
     let modification = if random.one_in(3) { 0 } else { random.at_edges(0, most) };
-    block.put(field, 8, modification as u64);
+    block.put_amount(line, at::MODIFICATION, modification as u64);
 }
 
 /// Sets the survivor's pension of line 1, unrevalued, so that the total lies at an edge of a rounding.
@@ -204,8 +224,8 @@ fn put_survivor_at_edge(model: &Model, random: &mut Random, block: &mut Block) {
     let before = block.clone();
     let line = at::LINES[0];
     block.put(at::REVALUATION, 4, 10_000);
-    for field in [at::SURVIVOR, at::DEPENDANT, at::DEBIT, at::LUMP_DEBIT] {
-        block.put(line + field, 8, 0);
+    for field in [at::SURVIVOR, at::DEPENDANT, at::SCHEME_PAYS, at::SCHEME_PAYS_LUMP] {
+        block.put_amount(line, field, 0);
     }
     let (factors, total) = match first_factors_and_total(model, block) {
         Some(found) => found,
@@ -220,7 +240,7 @@ fn put_survivor_at_edge(model: &Model, random: &mut Random, block: &mut Block) {
         with >= 0 && with % 100 == target
     });
     match found {
-        Some(survivor) => block.put(line + at::SURVIVOR, 8, survivor as u64),
+        Some(survivor) => block.put_amount(line, at::SURVIVOR, survivor as u64),
         None => *block = before,
     }
 }
@@ -230,8 +250,8 @@ fn put_survivor_at_edge(model: &Model, random: &mut Random, block: &mut Block) {
 pub fn put_total_near_zero(model: &Model, random: &mut Random, block: &mut Block, below: bool) {
     let line = at::LINES[0];
     block.put(at::REVALUATION, 4, 10_000);
-    for field in at::AMOUNTS {
-        block.put(line + field, 8, 0);
+    for field in at::BENEFITS.iter().chain(&at::REDUCTIONS) {
+        block.put_amount(line, *field, 0);
     }
     let (factors, _) = first_factors_and_total(model, block).unwrap();
     for _ in 0..64 {
@@ -239,9 +259,9 @@ pub fn put_total_near_zero(model: &Model, random: &mut Random, block: &mut Block
         let survivor = random.between(0, 500) as i128;
         let credit = pension * factors.pension + survivor * factors.survivor;
         let modification = credit / factors.deduct + below as i128;
-        block.put(line + at::PENSION, 8, pension as u64);
-        block.put(line + at::SURVIVOR, 8, survivor as u64);
-        block.put(line + at::MODIFICATION, 8, modification as u64);
+        block.put_amount(line, at::PENSION, pension as u64);
+        block.put_amount(line, at::SURVIVOR, survivor as u64);
+        block.put_amount(line, at::MODIFICATION, modification as u64);
         if (credit - modification * factors.deduct).abs() <= 50 {
             return;
         }
@@ -254,9 +274,9 @@ fn put_total_zero(model: &Model, random: &mut Random, block: &mut Block) {
     let (factors, _) = first_factors_and_total(model, block).unwrap();
     let times = random.between(1, 1_000) as u64;
     let line = at::LINES[0];
-    block.put(line + at::SURVIVOR, 8, 0);
-    block.put(line + at::PENSION, 8, factors.deduct as u64 * times);
-    block.put(line + at::MODIFICATION, 8, factors.pension as u64 * times);
+    block.put_amount(line, at::SURVIVOR, 0);
+    block.put_amount(line, at::PENSION, factors.deduct as u64 * times);
+    block.put_amount(line, at::MODIFICATION, factors.pension as u64 * times);
 }
 
 pub fn acceptable_kind_1(model: &Model, random: &mut Random) -> Block {
@@ -264,12 +284,12 @@ pub fn acceptable_kind_1(model: &Model, random: &mut Random) -> Block {
     put_dates_kind_1(random, &mut block);
     let line = at::LINES[0];
     let factor = block.revaluation();
-    for field in [at::PENSION, at::ADDITIONAL, at::SURVIVOR, at::DEPENDANT, at::LUMP] {
-        block.put(line + field, 8, amount(random, factor));
+    for field in at::BENEFITS {
+        block.put_amount(line, field, amount(random, factor));
     }
     let (pension, lump) = (block.revalued_pension(line), block.revalued_lump(line));
-    block.put(line + at::DEBIT, 8, debit(random, pension));
-    block.put(line + at::LUMP_DEBIT, 8, debit(random, lump));
+    block.put_amount(line, at::SCHEME_PAYS, scheme_pays(random, pension));
+    block.put_amount(line, at::SCHEME_PAYS_LUMP, scheme_pays(random, lump));
     put_modification(model, random, &mut block);
     match random.below(24) {
         0 => put_survivor_at_edge(model, random, &mut block),
@@ -277,6 +297,7 @@ pub fn acceptable_kind_1(model: &Model, random: &mut Random) -> Block {
         2 => put_total_zero(model, random, &mut block),
         _ => {}
     }
+    put_divorce_debits(model, random, &mut block);
     block
 }
 
@@ -346,18 +367,19 @@ pub fn acceptable_kind_2(model: &Model, random: &mut Random) -> Block {
     let most = if random.one_in(3) { 100_000 } else { LARGEST_AMOUNT };
     let first = at::LINES[0];
     for &start in &at::LINES[..block.count()] {
-        block.put(start + at::PENSION, 8, amount(random, factor).min(most));
-        block.put(start + at::SURVIVOR, 8, amount(random, factor).min(most));
+        block.put_amount(start, at::PENSION, amount(random, factor).min(most));
+        block.put_amount(start, at::SURVIVOR, amount(random, factor).min(most));
         if start == first {
-            block.put(start + at::ADDITIONAL, 8, amount(random, factor).min(most));
-            block.put(start + at::DEPENDANT, 8, amount(random, factor).min(most));
+            block.put_amount(start, at::ADDITIONAL, amount(random, factor).min(most));
+            block.put_amount(start, at::DEPENDANT, amount(random, factor).min(most));
         }
         let pension = block.revalued_pension(start);
-        block.put(start + at::DEBIT, 8, debit(random, pension));
+        block.put_amount(start, at::SCHEME_PAYS, scheme_pays(random, pension));
     }
     if random.one_in(24) {
         put_survivor_at_edge(model, random, &mut block);
     }
+    put_divorce_debits(model, random, &mut block);
     put_underpin(model, random, &mut block);
     block
 }

@@ -5,6 +5,7 @@
 //!     second cases FOLDER                   write the notes' examples as case files
 
 mod breaking;
+mod divorce;
 mod examples;
 mod figures;
 mod generator;
@@ -17,12 +18,12 @@ mod trial;
 
 use library::*;
 use model::*;
-use rules::RULES;
+use rules::{Seen, DIVORCE_RULES, RULES};
 use std::process::ExitCode;
 use std::time::Instant;
 use trial::*;
 
-/// Each refusal, each kind's payment and each rule must be reached as often as this.
+/// Each refusal, each kind's payment, each rule and each entry that pairs differ in must be reached as often as this.
 const LEAST_REACHED: u64 = 100;
 
 /// How often each answer, each row of factors and each rule was reached.
@@ -35,6 +36,7 @@ struct Reached {
     ages: Vec<u64>,
     years: Vec<u64>,
     rules: [u64; RULES.len()],
+    divorce_rules: Vec<u64>,
     longest_line: usize,
 }
 
@@ -52,16 +54,19 @@ impl Reached {
         }
     }
 
-    fn count_rules(&mut self, block: &[u8], answer: &Result<Payment, Refusal>) {
-        let case = case_of(block);
+    fn count_rules(&mut self, model: &Model, block: &[u8], answer: &Result<Payment, Refusal>) {
+        let seen = Seen::of(model, block, answer);
         for (n, (_, stands)) in self.rules.iter_mut().zip(RULES) {
-            *n += stands(&case, answer) as u64;
+            *n += stands(&seen.case, answer) as u64;
+        }
+        for (n, (_, stands)) in self.divorce_rules.iter_mut().zip(DIVORCE_RULES) {
+            *n += stands(&seen) as u64;
         }
     }
 
     fn enough(&self) -> bool {
         REFUSALS.iter().all(|(number, _)| self.refusals[*number] >= LEAST_REACHED)
-            && self.paid[1..].iter().chain(&self.rules).all(|&n| n >= LEAST_REACHED)
+            && self.paid[1..].iter().chain(&self.rules).chain(&self.divorce_rules).all(|&n| n >= LEAST_REACHED)
             && self.ages[22..].iter().chain(&self.years[1..]).all(|&n| n > 0)
     }
 
@@ -77,7 +82,8 @@ impl Reached {
         println!("  {:<28}{:>10}", "paid, kind 2", self.paid[2]);
         println!("  {:<28}{:>10}", "each age 22 to 59, at least", self.ages[22..].iter().min().unwrap());
         println!("  {:<28}{:>10}", "each year 1 to 50, at least", self.years[1..].iter().min().unwrap());
-        for ((name, _), n) in RULES.iter().zip(self.rules) {
+        let names = RULES.iter().map(|rule| rule.0).chain(DIVORCE_RULES.iter().map(|rule| rule.0));
+        for (name, n) in names.zip(self.rules.iter().chain(&self.divorce_rules)) {
             println!("  {name:<28}{n:>10}");
         }
         println!("  {:<28}{:>10}", "bytes of the longest line", self.longest_line);
@@ -111,7 +117,8 @@ fn wanted(model: &Model, block: &[u8], place: u32, out_len: usize) -> (String, R
 }
 
 fn compare(model: &Model, blocks: u64, seed: u64) -> Result<Reached, String> {
-    let mut reached = Reached { ages: vec![0; 60], years: vec![0; 51], ..Reached::default() };
+    let divorce_rules = vec![0; DIVORCE_RULES.len()];
+    let mut reached = Reached { ages: vec![0; 60], years: vec![0; 51], divorce_rules, ..Reached::default() };
     let mut lent = Lent::new();
     let mut memory = [0; LONGEST_BLOCK + 8];
     for index in 0..blocks {
@@ -134,7 +141,7 @@ fn compare(model: &Model, blocks: u64, seed: u64) -> Result<Reached, String> {
         reached.sorts[trial.sort] += 1;
         reached.longest_line = reached.longest_line.max(line.len());
         if trial.length == BLOCK_LENGTH {
-            reached.count_rules(trial.block(), &answer);
+            reached.count_rules(model, trial.block(), &answer);
         }
         match answer {
             Ok(_) => reached.count_payment(model, trial.block()),

@@ -15,7 +15,7 @@ pub const HAS_GMP: u64 = 2;
 pub type Refusal = usize;
 
 /// The refusals with their names.
-pub const REFUSALS: [(Refusal, &str); 16] = [
+pub const REFUSALS: [(Refusal, &str); 17] = [
     (1, "length"),
     (2, "check"),
     (3, "kind"),
@@ -31,6 +31,7 @@ pub const REFUSALS: [(Refusal, &str); 16] = [
     (13, "debit"),
     (14, "negative"),
     (15, "buffer"),
+    (16, "award"),
     (17, "order"),
 ];
 
@@ -38,7 +39,7 @@ pub fn name_of(refusal: Refusal) -> &'static str {
     REFUSALS.iter().find(|(number, _)| *number == refusal).unwrap().1
 }
 
-/// Offsets of the fields in a block, and below them those in a line.
+/// Offsets of the fields in a block, below them those in a line, and last a line's divorce debits, which stand apart from it.
 pub mod at {
     pub const KIND: usize = 0;
     pub const NUMBER: usize = 4;
@@ -66,9 +67,50 @@ pub mod at {
     pub const DEPENDANT: usize = 32;
     pub const LUMP: usize = 40;
     pub const MODIFICATION: usize = 48;
-    pub const DEBIT: usize = 56;
-    pub const LUMP_DEBIT: usize = 64;
-    pub const AMOUNTS: [usize; 8] = [PENSION, ADDITIONAL, SURVIVOR, DEPENDANT, LUMP, MODIFICATION, DEBIT, LUMP_DEBIT];
+    pub const SCHEME_PAYS: usize = 56;
+    pub const SCHEME_PAYS_LUMP: usize = 64;
+
+    /// One group of divorce debits to a line. They are numbered on from the line's end; `amount` finds them.
+    pub const GROUPS: [usize; 4] = [352, 376, 400, 424];
+    pub const GROUP_LENGTH: usize = 24;
+    pub const DEBIT_PENSION: usize = LINE_LENGTH;
+    pub const DEBIT_SURVIVOR: usize = LINE_LENGTH + 8;
+    pub const DEBIT_LUMP: usize = LINE_LENGTH + 16;
+
+    pub const BENEFITS: [usize; 5] = [PENSION, ADDITIONAL, SURVIVOR, DEPENDANT, LUMP];
+    pub const REDUCTIONS: [usize; 3] = [SCHEME_PAYS, SCHEME_PAYS_LUMP, MODIFICATION];
+    pub const DIVORCE: [usize; 3] = [DEBIT_PENSION, DEBIT_SURVIVOR, DEBIT_LUMP];
+    pub const AMOUNTS: [usize; 11] = [
+        PENSION,
+        ADDITIONAL,
+        SURVIVOR,
+        DEPENDANT,
+        LUMP,
+        MODIFICATION,
+        SCHEME_PAYS,
+        SCHEME_PAYS_LUMP,
+        DEBIT_PENSION,
+        DEBIT_SURVIVOR,
+        DEBIT_LUMP,
+    ];
+    /// The amounts that are zero in kind 2.
+    pub const ONLY_KIND_1: [usize; 4] = [LUMP, MODIFICATION, SCHEME_PAYS_LUMP, DEBIT_LUMP];
+    /// The amounts that are zero in lines 2 to 4.
+    pub const ONLY_LINE_1: [usize; 2] = [ADDITIONAL, DEPENDANT];
+
+    /// The place, counted from 0, of the line that starts here.
+    pub fn place(start: usize) -> usize {
+        LINES.iter().position(|&other| other == start).unwrap()
+    }
+
+    /// Where an amount of the line that starts here stands in the block.
+    pub fn amount(start: usize, field: usize) -> usize {
+        if field < LINE_LENGTH {
+            start + field
+        } else {
+            GROUPS[place(start)] + field - LINE_LENGTH
+        }
+    }
 }
 
 // Calendar.
@@ -155,8 +197,22 @@ pub struct Line {
     pub dependant: u64,
     pub lump: u64,
     pub modification: u64,
-    pub debit: u64,
-    pub lump_debit: u64,
+    pub scheme_pays: u64,
+    pub scheme_pays_lump: u64,
+    pub debit_pension: u64,
+    pub debit_survivor: u64,
+    pub debit_lump: u64,
+}
+
+impl Line {
+    /// Of pension, survivor's pension and lump sum.
+    pub fn divorce_debits(&self) -> [u64; 3] {
+        [self.debit_pension, self.debit_survivor, self.debit_lump]
+    }
+
+    pub fn has_divorce_debit(&self) -> bool {
+        self.divorce_debits() != [0; 3]
+    }
 }
 
 #[derive(Clone, Debug)]
@@ -204,7 +260,7 @@ pub fn check_of(block: &[u8]) -> u64 {
 }
 
 fn line_at(block: &[u8], start: usize) -> Line {
-    let amount = |offset| number_at(block, start + offset, 8);
+    let amount = |field| number_at(block, at::amount(start, field), 8);
     Line {
         date: date_at(block, start + at::DATE),
         pension: amount(at::PENSION),
@@ -213,8 +269,11 @@ fn line_at(block: &[u8], start: usize) -> Line {
         dependant: amount(at::DEPENDANT),
         lump: amount(at::LUMP),
         modification: amount(at::MODIFICATION),
-        debit: amount(at::DEBIT),
-        lump_debit: amount(at::LUMP_DEBIT),
+        scheme_pays: amount(at::SCHEME_PAYS),
+        scheme_pays_lump: amount(at::SCHEME_PAYS_LUMP),
+        debit_pension: amount(at::DEBIT_PENSION),
+        debit_survivor: amount(at::DEBIT_SURVIVOR),
+        debit_lump: amount(at::DEBIT_LUMP),
     }
 }
 
@@ -259,15 +318,15 @@ pub fn named_bytes() -> [bool; BLOCK_LENGTH] {
     }
     for start in at::LINES {
         name(start + at::DATE, 4);
-        for amount in at::AMOUNTS {
-            name(start + amount, 8);
+        for field in at::AMOUNTS {
+            name(at::amount(start, field), 8);
         }
     }
     name(at::CHECK, 4);
     named
 }
 
-// The answer. Items are in hundredths of a penny, the rest in pence.
+// The answer. Items and the total of the divorce debits are in hundredths of a penny, the rest in pence.
 
 #[derive(Clone, Copy, PartialEq, Eq, Debug, Default)]
 pub struct Payment {
@@ -275,6 +334,7 @@ pub struct Payment {
     pub lump: i128,
     pub survivor: i128,
     pub deduct: i128,
+    pub debit_total: i128,
     pub gross: i128,
     pub underpin: i128,
     pub avc: i128,
@@ -387,18 +447,20 @@ impl Model {
         Some(items(case, &factors?))
     }
 
-    /// Refusals 6 to 14 and 17, or the payment. Refusals 3 to 5 are decided by `read`: no case is built by hand here.
+    /// Refusals 6 to 14, 16 and 17, or the payment. Refusals 3 to 5 are decided by `read`: no case is built by hand here.
     pub fn value(&self, case: &Case) -> Result<Payment, Refusal> {
         refused_before_factors(case)?;
         let mut payment = self.items(case).ok_or(12usize)?;
-        if case.used().iter().any(|line| debit_broken(case, line)) {
+        if case.used().iter().any(|line| scheme_pays_broken(case, line)) {
             return Err(13);
         }
-        let total = signed_total(&payment);
-        if total < 0 {
+        if signed_total(&payment) < 0 {
             return Err(14);
         }
-        payment.gross = rounded(total, 100);
+        payment.gross = first_value(&payment) - debit_value(&payment);
+        if payment.gross < 0 {
+            return Err(16);
+        }
         payment.paid = payment.gross.max(payment.underpin) + payment.avc;
         Ok(payment)
     }
@@ -432,14 +494,14 @@ fn kind_allowed(case: &Case) -> bool {
 /// Every must-be-zero rule but that of the unnamed bytes.
 fn reserved_broken(block: &[u8], case: &Case) -> bool {
     let nonzero = |offset: usize, width: usize| number_at(block, offset, width) != 0;
-    let past_count = at::LINES[case.count as usize..]
-        .iter()
-        .any(|&start| block[start..start + at::LINE_LENGTH].iter().any(|&byte| byte != 0));
+    let filled = |start: usize, length: usize| block[start..start + length].iter().any(|&byte| byte != 0);
+    let count = case.count as usize;
+    let past_count = at::LINES[count..].iter().any(|&start| filled(start, at::LINE_LENGTH))
+        || at::GROUPS[count..].iter().any(|&start| filled(start, at::GROUP_LENGTH));
     let of_kind = if case.kind == 1 {
         case.has(TRANSFERRED_IN) || nonzero(at::CONTRIBUTIONS, 8) || nonzero(at::LINES[0], 4)
     } else {
-        let only_kind_1 = [at::LUMP, at::MODIFICATION, at::LUMP_DEBIT];
-        at::LINES.iter().any(|&start| only_kind_1.iter().any(|&field| nonzero(start + field, 8)))
+        at::LINES.iter().any(|&start| at::ONLY_KIND_1.iter().any(|&field| nonzero(at::amount(start, field), 8)))
     };
     case.flags & !(TRANSFERRED_IN | HAS_GMP) != 0
         || past_count
@@ -453,9 +515,10 @@ fn reserved_broken(block: &[u8], case: &Case) -> bool {
 fn range_broken(case: &Case) -> bool {
     let amounts_broken = |line: &Line| {
         let Line { pension, additional, survivor, dependant, .. } = *line;
-        let Line { lump, modification, debit, lump_debit, .. } = *line;
-        [pension, additional, survivor, dependant, lump, modification, debit, lump_debit]
+        let Line { lump, modification, scheme_pays, scheme_pays_lump, .. } = *line;
+        [pension, additional, survivor, dependant, lump, modification, scheme_pays, scheme_pays_lump]
             .iter()
+            .chain(&line.divorce_debits())
             .any(|&amount| amount > LARGEST_AMOUNT)
     };
     case.number == 0
@@ -517,9 +580,9 @@ fn refused_before_factors(case: &Case) -> Result<(), Refusal> {
     }
 }
 
-fn debit_broken(case: &Case, line: &Line) -> bool {
-    line.debit as i128 > revalued(line.pension + line.additional, case.revaluation)
-        || line.lump_debit as i128 > revalued(line.lump, case.revaluation)
+fn scheme_pays_broken(case: &Case, line: &Line) -> bool {
+    line.scheme_pays as i128 > revalued(line.pension + line.additional, case.revaluation)
+        || line.scheme_pays_lump as i128 > revalued(line.lump, case.revaluation)
 }
 
 fn items(case: &Case, factors: &[Factors]) -> Payment {
@@ -528,10 +591,11 @@ fn items(case: &Case, factors: &[Factors]) -> Payment {
         let pension = revalued(line.pension + line.additional, case.revaluation);
         let survivor = revalued(line.survivor + line.dependant, case.revaluation);
         let lump = revalued(line.lump, case.revaluation);
-        sum.pension += (pension - line.debit as i128) * factor.pension;
-        sum.lump += (lump - line.lump_debit as i128) * factor.lump;
+        sum.pension += (pension - line.scheme_pays as i128) * factor.pension;
+        sum.lump += (lump - line.scheme_pays_lump as i128) * factor.lump;
         sum.survivor += survivor * factor.survivor;
         sum.deduct += line.modification as i128 * factor.deduct;
+        sum.debit_total += line_debit_total(case, line, factor);
     }
     if case.kind == 2 && case.has(TRANSFERRED_IN) {
         sum.underpin = case.transfer_in as i128 + case.contributions as i128;
@@ -539,8 +603,25 @@ fn items(case: &Case, factors: &[Factors]) -> Payment {
     sum
 }
 
+/// A line's divorce debits, each revalued and rounded, then valued as the benefit that it reduces.
+pub fn line_debit_total(case: &Case, line: &Line, factor: &Factors) -> i128 {
+    let [pension, survivor, lump] = line.divorce_debits().map(|debit| revalued(debit, case.revaluation));
+    pension * factor.pension + survivor * factor.survivor + lump * factor.lump
+}
+
+/// The total before any divorce debit and before its rounding; Scheme Pays and modification are in it.
 pub fn signed_total(payment: &Payment) -> i128 {
     payment.pension + payment.lump + payment.survivor - payment.deduct
+}
+
+/// The signed total in whole pence, halves up. Below zero it is refused before it is used.
+pub fn first_value(payment: &Payment) -> i128 {
+    (signed_total(payment) + 50).div_euclid(100)
+}
+
+/// The divorce debits of all lines, rounded once.
+pub fn debit_value(payment: &Payment) -> i128 {
+    rounded(payment.debit_total, 100)
 }
 
 fn pounds(pence: i128) -> String {

@@ -1,12 +1,14 @@
 //! Properties of the library as it is built: demand 3 on pairs of cases, the lines of a case in every order, the lent buffer,
 //! the place and the lengths.
 
+use crate::divorce::most_within;
 use crate::generator::*;
 use crate::library::*;
 use crate::model::*;
 use crate::random::Random;
 use crate::trial::LONGEST_BLOCK;
-use crate::{hex, show_difference};
+use crate::{hex, show_difference, LEAST_REACHED};
+use std::collections::BTreeMap;
 
 /// What a line of the library says was paid, in pence, and its items, in hundredths of a penny.
 struct Paid {
@@ -41,15 +43,15 @@ fn parse(line: &str) -> Option<Paid> {
 }
 
 impl Paid {
-    /// The gross value that the printed items add up to.
-    fn gross(&self) -> i128 {
+    /// The first value, which the printed items add up to.
+    fn first_value(&self) -> i128 {
         let [pension, lump, survivor, deduct] = self.items;
         (pension + lump + survivor - deduct + 50).div_euclid(100)
     }
 
-    /// Whether steps 5 and 6 make the payment of the gross value.
-    fn follows(&self) -> bool {
-        self.paid == self.gross().max(self.underpin) + self.avc
+    /// Whether steps 5 and 6 make the payment of the gross value: the first value less this debit value.
+    fn follows(&self, debit_value: i128) -> bool {
+        self.paid == (self.first_value() - debit_value).max(self.underpin) + self.avc
     }
 }
 
@@ -65,36 +67,54 @@ struct Entry {
     most: i128,
 }
 
-const BENEFITS: [usize; 5] = [at::PENSION, at::ADDITIONAL, at::SURVIVOR, at::DEPENDANT, at::LUMP];
-const REDUCTIONS: [usize; 3] = [at::DEBIT, at::LUMP_DEBIT, at::MODIFICATION];
-
-/// How much more a debit or a modification can be before the case is refused for it.
-fn reduction_left(model: &Model, block: &Block, start: usize, field: usize) -> Option<i128> {
+/// The largest a Scheme Pays debit or a modification can be before the case is refused for it.
+fn largest_reduction(model: &Model, block: &Block, start: usize, field: usize) -> Option<i128> {
     let case = case_of(&block.0);
-    let line = case.lines[at::LINES.iter().position(|&other| other == start)?];
-    let total = signed_total(&model.value(&case).ok()?);
-    let factors = model.factors(&case, &line)?;
+    let sums = model.value(&case).ok()?;
+    let factors = model.factors(&case, &case.lines[at::place(start)])?;
+    // The first value may fall to the debit value: half a penny under it rounds up to it.
+    let left = signed_total(&sums) - (100 * debit_value(&sums) - 50).max(0);
+    let now = block.amount(start, field) as i128;
     Some(match field {
-        at::DEBIT => (block.revalued_pension(start) - line.debit as i128).min(total / factors.pension),
-        at::LUMP_DEBIT => (block.revalued_lump(start) - line.lump_debit as i128).min(total / factors.lump),
-        _ => total / factors.deduct,
+        at::SCHEME_PAYS => block.revalued_pension(start).min(now + left / factors.pension),
+        at::SCHEME_PAYS_LUMP => block.revalued_lump(start).min(now + left / factors.lump),
+        _ => now + left / factors.deduct,
     })
+}
+
+/// The largest a divorce debit can be before the debit value is above the first value.
+fn largest_divorce_debit(model: &Model, block: &Block, start: usize, field: usize) -> Option<i128> {
+    let case = case_of(&block.0);
+    let sums = model.value(&case).ok()?;
+    let factor = factor_of(&model.factors(&case, &case.lines[at::place(start)])?, field);
+    let own = revalued(block.amount(start, field), case.revaluation) * factor;
+    let left = 100 * first_value(&sums) + 49 - (sums.debit_total - own);
+    Some(most_within(left, factor, case.revaluation) as i128)
+}
+
+/// The factor of a benefit, or of the divorce debit that reduces it.
+fn factor_of(factors: &Factors, field: usize) -> i128 {
+    match field {
+        at::PENSION | at::ADDITIONAL | at::DEBIT_PENSION => factors.pension,
+        at::LUMP | at::DEBIT_LUMP => factors.lump,
+        _ => factors.survivor,
+    }
 }
 
 fn draw_entry(model: &Model, random: &mut Random, block: &Block, fields: &[usize]) -> Option<Entry> {
     let field = random.pick(fields);
-    let only_kind_1 = [at::LUMP, at::LUMP_DEBIT, at::MODIFICATION].contains(&field);
-    if only_kind_1 && block.kind() == 2 {
+    if at::ONLY_KIND_1.contains(&field) && block.kind() == 2 {
         return None;
     }
-    let start = if [at::ADDITIONAL, at::DEPENDANT].contains(&field) { at::LINES[0] } else { block.some_line(random) };
-    let now = block.get(start + field, 8) as i128;
-    let limit = if BENEFITS.contains(&field) {
+    let start = if at::ONLY_LINE_1.contains(&field) { at::LINES[0] } else { block.some_line(random) };
+    let limit = if at::BENEFITS.contains(&field) {
         LARGEST_AMOUNT as i128
+    } else if at::DIVORCE.contains(&field) {
+        largest_divorce_debit(model, block, start, field)?
     } else {
-        now + reduction_left(model, block, start, field)?
+        largest_reduction(model, block, start, field)?
     };
-    let most = limit.min(LARGEST_AMOUNT as i128) - now;
+    let most = limit.min(LARGEST_AMOUNT as i128) - block.amount(start, field) as i128;
     (most > 0).then_some(Entry { field, start, most })
 }
 
@@ -112,9 +132,8 @@ fn draw_pair(model: &Model, random: &mut Random, fields: &[usize]) -> (Block, Bl
             2 => entry.most as i64,
             _ => random.between(1, entry.most as i64),
         };
-        let offset = entry.start + entry.field;
         let mut larger = smaller.clone();
-        larger.put(offset, 8, smaller.get(offset, 8) + extra as u64);
+        larger.put_amount(entry.start, entry.field, smaller.amount(entry.start, entry.field) + extra as u64);
         smaller.seal();
         larger.seal();
         return (smaller, larger, entry, extra as i128);
@@ -124,18 +143,19 @@ fn draw_pair(model: &Model, random: &mut Random, fields: &[usize]) -> (Block, Bl
 /// Whether the gross values differ by extra times revaluation times factor, to within the factor and a penny.
 fn close(model: &Model, smaller: &Block, entry: &Entry, extra: i128, difference: i128) -> bool {
     let case = case_of(&smaller.0);
-    let line = at::LINES.iter().position(|&start| start == entry.start).unwrap();
-    let factors = model.factors(&case, &case.lines[line]).unwrap();
-    let factor = match entry.field {
-        at::PENSION | at::ADDITIONAL => factors.pension,
-        at::LUMP => factors.lump,
-        _ => factors.survivor,
-    };
+    let factor = factor_of(&model.factors(&case, &case.lines[at::place(entry.start)]).unwrap(), entry.field);
     let exact = extra * case.revaluation as i128 * factor;
     (difference * 1_000_000 - exact).abs() <= (factor + 100) * 10_000
 }
 
-fn try_pair(model: &Model, random: &mut Random, lent: &mut Lent, fields: &[usize]) -> Result<(), String> {
+/// A pair's entry, and whether the larger has a debit value.
+struct Tried {
+    entry: Entry,
+    divorced: bool,
+}
+
+/// Tries a pair that differs in one of these fields.
+fn try_pair(model: &Model, random: &mut Random, lent: &mut Lent, fields: &[usize]) -> Result<Tried, String> {
     let (smaller, larger, entry, extra) = draw_pair(model, random, fields);
     let lines = [line_of(lent, &smaller), line_of(lent, &larger)];
     let failed = |what: &str| {
@@ -147,14 +167,15 @@ fn try_pair(model: &Model, random: &mut Random, lent: &mut Lent, fields: &[usize
         (Some(before), Some(after)) => (before, after),
         _ => return failed("one of a pair of accepted cases is not paid"),
     };
-    let gross = [&smaller, &larger].map(|block| model.value(&case_of(&block.0)).unwrap().gross);
-    if [before.gross(), after.gross()] != gross {
-        return failed("the printed items do not add up to the gross value");
+    let sums = [&smaller, &larger].map(|block| model.value(&case_of(&block.0)).unwrap());
+    if [before.first_value(), after.first_value()] != sums.map(|sums| first_value(&sums)) {
+        return failed("the printed items do not add up to the first value");
     }
-    if !before.follows() || !after.follows() {
+    if !before.follows(debit_value(&sums[0])) || !after.follows(debit_value(&sums[1])) {
         return failed("steps 5 and 6 do not give the payment");
     }
-    let benefit = BENEFITS.contains(&entry.field);
+    let gross = sums.map(|sums| sums.gross);
+    let benefit = at::BENEFITS.contains(&entry.field);
     if benefit && after.paid < before.paid {
         return failed("paid less for a larger benefit");
     }
@@ -164,7 +185,7 @@ fn try_pair(model: &Model, random: &mut Random, lent: &mut Lent, fields: &[usize
     if !benefit && after.paid > before.paid {
         return failed("paid more for a larger reduction");
     }
-    Ok(())
+    Ok(Tried { entry, divorced: debit_value(&sums[1]) > 0 })
 }
 
 /// Every order of so many things; the first is the one in which they stand.
@@ -187,25 +208,32 @@ fn draw_lines(model: &Model, random: &mut Random) -> Block {
     loop {
         let mut block = acceptable_kind_2(model, random);
         let line_1 = at::LINES[0];
-        for only_on_line_1 in [at::ADDITIONAL, at::DEPENDANT] {
-            block.put(line_1 + only_on_line_1, 8, 0);
+        for field in at::ONLY_LINE_1 {
+            block.put_amount(line_1, field, 0);
         }
         let most = block.revalued_pension(line_1).min(LARGEST_AMOUNT as i128) as u64;
-        block.put(line_1 + at::DEBIT, 8, block.get(line_1 + at::DEBIT, 8).min(most));
+        block.put_amount(line_1, at::SCHEME_PAYS, block.amount(line_1, at::SCHEME_PAYS).min(most));
         let days = at::LINES[..block.count()].iter().map(|start| block.day(start + at::DATE));
-        if block.count() > 1 && days.min().map_or(false, |day| latest_birth(day) >= first_day()) {
+        if block.count() < 2 || days.min().map_or(true, |day| latest_birth(day) < first_day()) {
+            continue;
+        }
+        // With less on line 1, or alone, a line's divorce debits may be worth more than it is.
+        let paid = |block: &Block| model.value(&case_of(&block.0)).is_ok();
+        if paid(&block) && (0..block.count()).all(|place| paid(&with_line_alone(&block, place))) {
             block.seal();
             return block;
         }
     }
 }
 
-/// The block with its lines in this order.
+/// The block with its lines, and their divorce debits, in this order.
 fn in_order(block: &Block, order: &[usize]) -> Block {
     let mut moved = block.clone();
-    for (start, &from) in at::LINES.iter().zip(order) {
-        let line = at::LINES[from]..at::LINES[from] + at::LINE_LENGTH;
-        moved.0[*start..start + at::LINE_LENGTH].copy_from_slice(&block.0[line]);
+    for (place, &from) in order.iter().enumerate() {
+        for (starts, length) in [(at::LINES, at::LINE_LENGTH), (at::GROUPS, at::GROUP_LENGTH)] {
+            let part = &block.0[starts[from]..starts[from] + length];
+            moved.0[starts[place]..starts[place] + length].copy_from_slice(part);
+        }
     }
     moved.seal();
     moved
@@ -214,9 +242,8 @@ fn in_order(block: &Block, order: &[usize]) -> Block {
 /// The block with one of its lines alone, of a member born early enough for it to be line 1.
 fn with_line_alone(block: &Block, place: usize) -> Block {
     let mut alone = in_order(block, &[place]);
-    for start in &at::LINES[1..] {
-        alone.0[*start..start + at::LINE_LENGTH].fill(0);
-    }
+    alone.0[at::LINES[1]..at::LINES[3] + at::LINE_LENGTH].fill(0);
+    alone.0[at::GROUPS[1]..at::GROUPS[3] + at::GROUP_LENGTH].fill(0);
     alone.put(at::COUNT, 1, 1);
     let latest = latest_birth(alone.day(at::LINES[0] + at::DATE));
     alone.put_day(at::BIRTH, latest.min(alone.day(at::BIRTH)));
@@ -226,12 +253,13 @@ fn with_line_alone(block: &Block, place: usize) -> Block {
 
 /// The lines of an accepted case in every order. In its own the case is paid, and its items are the sums of those that the library
 /// gives for each line alone. In any other it is refused: with 6 where line 1 is not first, since it is then not before the first,
-/// else with 17. The second calculator's items, summed line by line, are the same in every order.
+/// else with 17. The second calculator's items and divorce debits, summed line by line, are the same in every order.
 fn try_orders(model: &Model, random: &mut Random, lent: &mut Lent) -> Result<u64, String> {
     let block = draw_lines(model, random);
     let failed = |what: &str, order: &[usize]| format!("{what}: lines {order:?} of {}", hex(&block.0));
     let whole = parse(&line_of(lent, &block)).ok_or_else(|| failed("an accepted case is not paid", &[]))?;
-    if !whole.follows() {
+    let sums = model.items(&case_of(&block.0)).unwrap();
+    if !whole.follows(debit_value(&sums)) {
         return Err(failed("steps 5 and 6 do not give the payment", &[]));
     }
     let orders = orders(block.count());
@@ -249,6 +277,9 @@ fn try_orders(model: &Model, random: &mut Random, lent: &mut Lent) -> Result<u64
         let items = model.items(&case_of(&moved.0)).unwrap();
         if [items.pension, items.lump, items.survivor, items.deduct] != whole.items {
             return Err(failed("the items are not the same in another order", order));
+        }
+        if items.debit_total != sums.debit_total {
+            return Err(failed("the divorce debits are not worth the same in another order", order));
         }
         if *order == orders[0] {
             continue;
@@ -335,29 +366,63 @@ fn try_blocks(model: &Model, random: &mut Random, lent: &mut Lent, rounds: u64) 
     Ok(tried)
 }
 
+/// How many pairs have divorce debits, and how often the entry that was drawn least was drawn.
+struct Pairs {
+    divorced: u64,
+    least_drawn: u64,
+}
+
+/// How many entries a case may have in these fields: four to a field where every line may have it, else one.
+fn entries_of(fields: &[usize]) -> usize {
+    let on_every_line = |field: &&usize| !at::ONLY_LINE_1.contains(field) && !at::ONLY_KIND_1.contains(field);
+    fields.len() + 3 * fields.iter().filter(on_every_line).count()
+}
+
+/// Tries so many pairs that differ in one of these fields. Each entry that a case may have there must be drawn as often as
+/// each rule must be reached.
+fn try_pairs(model: &Model, pairs: u64, seed: u64, stream: u64, fields: &[usize]) -> Result<Pairs, String> {
+    let lent = &mut Lent::new();
+    let mut drawn: BTreeMap<(usize, usize), u64> = BTreeMap::new();
+    let mut divorced = 0;
+    for index in 0..pairs {
+        let random = &mut Random::new(seed, stream, index);
+        let tried = try_pair(model, random, lent, fields).map_err(|e| format!("{e}; seed {seed}, pair {index}"))?;
+        *drawn.entry((tried.entry.start, tried.entry.field)).or_insert(0) += 1;
+        divorced += tried.divorced as u64;
+    }
+    let (entries, found) = (entries_of(fields), drawn.len());
+    let least_drawn = *drawn.values().min().unwrap();
+    if found != entries || least_drawn < LEAST_REACHED {
+        return Err(format!("{found} of {entries} entries drawn, one of them {least_drawn} times; seed {seed}"));
+    }
+    Ok(Pairs { divorced, least_drawn })
+}
+
+fn try_orders_of_many(model: &Model, cases: u64, seed: u64) -> Result<u64, String> {
+    let lent = &mut Lent::new();
+    (0..cases).try_fold(0, |tried, index| {
+        let random = &mut Random::new(seed, 4, index);
+        let more = try_orders(model, random, lent).map_err(|e| format!("{e}; seed {seed}, order {index}"))?;
+        Ok(tried + more)
+    })
+}
+
 /// Every property, with how often it was tried.
 pub fn try_all(model: &Model, blocks: u64, seed: u64) -> Result<Vec<(&'static str, u64)>, String> {
-    let lent = &mut Lent::new();
     let pairs = (blocks / 8).max(1_000);
-    for index in 0..pairs {
-        let random = &mut Random::new(seed, 2, index);
-        try_pair(model, random, lent, &BENEFITS).map_err(|e| format!("{e}; seed {seed}, pair {index}"))?;
-        try_pair(model, random, lent, &REDUCTIONS).map_err(|e| format!("{e}; seed {seed}, pair {index}"))?;
+    let mut tried = Vec::new();
+    for (name, stream, fields) in [
+        ("pairs, larger benefit", 2, &at::BENEFITS[..]),
+        ("pairs, larger reduction", 5, &at::REDUCTIONS[..]),
+        ("pairs, larger divorce debit", 6, &at::DIVORCE[..]),
+    ] {
+        let Pairs { divorced, least_drawn } = try_pairs(model, pairs, seed, stream, fields)?;
+        tried.extend([(name, pairs), ("  with divorce debits", divorced), ("  of each entry, at least", least_drawn)]);
     }
-    let mut other_orders = 0;
-    for index in 0..(blocks / 50).max(1_000) {
-        let random = &mut Random::new(seed, 4, index);
-        other_orders += try_orders(model, random, lent).map_err(|e| format!("{e}; seed {seed}, order {index}"))?;
-    }
-    let random = &mut Random::new(seed, 3, 0);
+    tried.push(("lines in another order", try_orders_of_many(model, (blocks / 50).max(1_000), seed)?));
+    let (random, lent) = (&mut Random::new(seed, 3, 0), &mut Lent::new());
     let [buffers, places, lengths] =
         try_blocks(model, random, lent, (blocks / 5_000).clamp(20, 1_000)).map_err(|e| format!("{e}, seed {seed}"))?;
-    Ok(vec![
-        ("pairs, larger benefit", pairs),
-        ("pairs, larger reduction", pairs),
-        ("lines in another order", other_orders),
-        ("buffers of 0 to 600 bytes", buffers),
-        ("places", places),
-        ("blocks of 0 to 600 bytes", lengths),
-    ])
+    tried.extend([("buffers of 0 to 600 bytes", buffers), ("places", places), ("blocks of 0 to 600 bytes", lengths)]);
+    Ok(tried)
 }

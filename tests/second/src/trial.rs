@@ -173,7 +173,7 @@ fn fields_redrawn(model: &Model, random: &mut Random) -> Trial {
             }
             _ => {
                 let amount = random.pick(&[0, 1, 99, LARGEST_AMOUNT, LARGEST_AMOUNT + 1, 123_456]);
-                block.put(line + random.pick(&at::AMOUNTS), 8, amount);
+                block.put_amount(line, random.pick(&at::AMOUNTS), amount);
             }
         }
     }

@@ -28,15 +28,14 @@ loop-holds c = (omega arith, c .rules-of .ensures, any-none _, any-none _)
 
 loop-again : tie.Need-loop-again Inv-loop μ-loop
 loop-again c =
-    let loop = c .before .before .before .before .before .loop in
-    let line-of = c .before .before .before .line-of in
-    let faults-of-line = c .before .before .faults-of-line in
+    let loop = c .before .before .before .before .loop in
+    let faults-of-block-line = c .before .before .faults-of-block-line in
     let inv = loop .inv in
-    let faults = faults-of-line .ensures in (
+    let faults = faults-of-block-line .ensures in (
       omega arith,
       inv .1,
-      rw (any-more, inv .2, faults .0, inv .1, line-of .ensures),
-      rw (any-more, inv .3, faults .1, inv .1, line-of .ensures),
+      rw (any-more, inv .2, faults .0, inv .1),
+      rw (any-more, inv .3, faults .1, inv .1),
     )
 
 returns : tie.Need-returns Inv-loop μ-loop
@@ -54,7 +53,6 @@ faults-of-block-lines-spec =
     μ-loop
     (λ c κs. search needs)
     loop-holds
-    (λ c. search needs) (λ c κs. search needs) (λ c κs. search needs) (λ c. search needs)
-    (λ c. search needs)
+    (λ c κs. search needs) (λ c. search needs) (λ c. search needs)
     loop-again
     returns)

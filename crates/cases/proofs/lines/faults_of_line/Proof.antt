@@ -5,7 +5,7 @@ use native.Mathlib.Omega.{arith}
 use borrow.Author.Tests.{le-leb, lt-leb}
 use borrow.Author.Needs.{needs}
 use Rattle.cases.specs.Form.{lineReservedFault}
-use Rattle.cases.proofs.PastCount.{zero-reserved, zero-range, range-within, range-past}
+use Rattle.cases.proofs.PastCount.{range-within, range-past, zero-faults}
 use Rattle.cases.proofs.lines.faults_of_line.Statement.{statement}
 use Rattle.cases.proofs.lines.faults_of_line.Tie as tie
 
@@ -35,16 +35,11 @@ returns-2 c =
     )
 
 returns-3 : tie.Need-returns-3
-unfolding lineReservedFault
 returns-3 c =
     let args = c .before .before .before .args in
     let line-filled = c .before .line-filled in
-    let i = args .i in
-    let count = args .count in
-    let zero = sym (line-filled .ensures) ∙ c .if2 .left in (
-      rw (zero, le-leb count i (omega arith), zero-reserved (args .rules) i (args .l) zero),
-      rw (range-past (args .rules) count i (args .l) (omega arith), zero-range (args .l) zero),
-    )
+    let none = zero-faults (args .rules) (args .count) (args .i) (args .l) (omega arith) (sym (line-filled .ensures) ∙ c .if2 .left) in
+    (sym (none .0), sym (none .1))
 
 pub faults-of-line-spec : {M : Type 1} → statement M
 faults-of-line-spec =

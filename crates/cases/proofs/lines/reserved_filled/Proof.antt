@@ -1,6 +1,6 @@
 -- `reserved_filled` meets its contract.
 -- Assumes nothing.
-use mathlib.Core.Bool.{or-false}
+use mathlib.Core.Bool.{or-false, or-assoc}
 use borrow.Author.Needs.{needs}
 use Rattle.cases.specs.Form.{reservedFilled}
 use Rattle.cases.proofs.lines.reserved_filled.Statement.{statement}
@@ -9,8 +9,8 @@ use Rattle.cases.proofs.lines.reserved_filled.Tie as tie
 returns : tie.Need-returns
 unfolding reservedFilled
 returns c =
-    let is-zero = c .before .before .before .before .before .before .before .is-zero in
-    rw (is-zero .ensures) (simp or-false)
+    let is-zero = c .before .before .before .before .before .before .before .before .is-zero in
+    rw (is-zero .ensures) (simp (or-false, or-assoc))
 
 pub reserved-filled-spec : {M : Type 1} → statement M
 reserved-filled-spec = tie.close (tie.spec (λ c κs. search needs) returns)
