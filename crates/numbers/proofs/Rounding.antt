@@ -1,8 +1,9 @@
 -- The laws of rounding: it keeps the order, and what it gives is never further off than half a unit.
 -- Assumes nothing.
 use Prim.Native.Nat.{ℕ, _+_, _*_, _/_, _%_, _≤_, _<_}
-use native.Mathlib.Nat.{div-zero, div-mul-le-self, lt-div-mul-add, le-div-iff-mul-le, le-trans, mul-assoc, add-mul, one-mul, div-add-mod', div-eq-of-lt-le, mul-le-mul-left}
+use native.Mathlib.Nat.{div-zero, div-mul-le-self, lt-div-mul-add, le-div-iff-mul-le, le-trans, mul-assoc, mul-div-mul-right, add-mul, one-mul, div-add-mod', div-eq-of-lt-le, mul-le-mul-left}
 use native.Mathlib.Omega.{arith}
+use lib.Dec.{lit<}
 use mathlib.Core.Path.{_≡_}
 use Rattle.numbers.specs.Rounding.{nearest, Within}
 
@@ -21,6 +22,11 @@ nearest-half d n p =
 -- rounding both moves a difference by no more than one unit
 pub nearest-near : (d m n : ℕ) → 0 < d → Within d (nearest d n * d + m) (nearest d m * d + n)
 nearest-near d m n p = omega (arith, nearest-half d m p, nearest-half d n p)
+
+-- where the unit is even, half a unit is added and the rest is cut off
+pub nearest-even : (h n : ℕ) → nearest (h * 2) n ≡ (n + h) / (h * 2)
+unfolding nearest
+nearest-even h n = rw (← add-mul) (mul-div-mul-right {m = 2} (n + h) (h * 2) (lit< tt))
 
 -- where d is 0 there is nothing to round to
 pub nearest-none : (n : ℕ) → nearest 0 n ≡ 0

@@ -65,12 +65,13 @@ fn found_or_zero(row: Row) -> Factors
     }
 }
 
-// Pence times a factor in ten-thousandths, to the penny.
+// Pence times a factor in ten-thousandths, to the penny. Amounts in range leave room to add the half, so there is no need to look at
+// what is over.
 fn revalue(x: u64, v: u32) -> u64
     requires { ⌜ (x ≤ 2000000000) × (v ≤ 100000) ⌝ }
     ensures { λ r. ⌜ (r ≡ revalued v x) × (r ≤ 20000000000) ⌝ }
 {
-    numbers::nearest(x * (v as u64), 10000)
+    (x * (v as u64) + 5000) / 10000
 }
 
 // Pence times a factor in hundredths.
