@@ -216,7 +216,8 @@ static int value(const struct record *c, struct items *m)
         lump += (q - l->scheme_pays_lump) * b;
         survivor += revalued(l->survivor + l->dependant, c->revaluation) * s;
         deduction += l->modification * e;
-        debit += revalued(l->debit_pension, c->revaluation) * a + revalued(l->debit_survivor, c->revaluation) * s + revalued(l->debit_lump, c->revaluation) * b;
+        if (l->debit_pension | l->debit_survivor | l->debit_lump)
+            debit += revalued(l->debit_pension, c->revaluation) * a + revalued(l->debit_survivor, c->revaluation) * s + revalued(l->debit_lump, c->revaluation) * b;
     }
     if (pension + lump + survivor < deduction)
         return 14;
