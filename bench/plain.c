@@ -19,6 +19,21 @@ static const uint16_t section_1995[38][4] = {
     {1647, 80, 143, 1109}, {1685, 82, 145, 1141}, {1724, 84, 147, 1173}, {1764, 86, 148, 1207},
     {1805, 88, 150, 1242}, {1848, 90, 151, 1278}, {1892, 92, 152, 1316}, {1938, 94, 153, 1354},
     {1985, 97, 154, 1395}, {2034, 99, 154, 1437}};
+/* TV3 and TV4 print the same figures, so one table serves men and women: its
+ * last column is TV3E, TV4E and, from 60, TV4F. */
+static const uint16_t section_2008[47][4] = {
+    {650, 33, 76, 465}, {664, 34, 80, 478}, {678, 35, 82, 491}, {693, 36, 84, 504},
+    {707, 36, 86, 518}, {722, 37, 88, 532}, {738, 38, 90, 546}, {753, 39, 92, 561},
+    {769, 40, 94, 577}, {785, 41, 96, 592}, {802, 42, 99, 608}, {819, 43, 101, 625},
+    {836, 44, 103, 642}, {854, 45, 105, 660}, {872, 46, 108, 678}, {891, 47, 110, 696},
+    {910, 49, 112, 715}, {929, 50, 115, 735}, {949, 51, 117, 755}, {970, 52, 119, 776},
+    {990, 53, 121, 797}, {1012, 55, 124, 819}, {1034, 56, 126, 842}, {1056, 57, 128, 865},
+    {1079, 59, 130, 890}, {1102, 60, 132, 914}, {1126, 62, 134, 940}, {1151, 63, 137, 966},
+    {1176, 64, 139, 993}, {1202, 66, 141, 1021}, {1229, 68, 143, 1049}, {1256, 69, 145, 1079},
+    {1284, 71, 146, 1109}, {1313, 73, 148, 1141}, {1342, 74, 150, 1173}, {1373, 76, 152, 1207},
+    {1404, 78, 153, 1242}, {1437, 80, 154, 1278}, {1470, 82, 156, 1316}, {1504, 84, 157, 1354},
+    {1540, 86, 158, 1395}, {1577, 88, 158, 1437}, {1615, 90, 159, 1480}, {1655, 92, 159, 1526},
+    {1696, 94, 159, 1573}, {1739, 97, 159, 1623}, {1783, 99, 159, 1674}};
 static const uint16_t scheme_2015[50][2] = {
     {1708, 160}, {1665, 160}, {1624, 160}, {1572, 161}, {1522, 161}, {1474, 161}, {1427, 161},
     {1394, 160}, {1362, 159}, {1331, 158}, {1301, 157}, {1272, 156}, {1244, 154}, {1217, 152},
@@ -36,7 +51,7 @@ struct line {
     uint64_t debit_pension, debit_survivor, debit_lump;
 };
 struct record {
-    unsigned kind, status, receiver, flags, count, service;
+    unsigned kind, status, receiver, flags, count, service, sex;
     uint32_t number, revaluation;
     struct date birth, leaving, guarantee, state_pension;
     uint64_t avc, transfer, contributions;
@@ -112,7 +127,7 @@ static int read_block(const uint8_t *b, size_t n, struct record *c)
     if (sum != u32(b + 508))
         return 2;
     c->kind = u16(b); c->number = u32(b + 4);
-    c->status = b[8]; c->receiver = b[9]; c->flags = b[10]; c->count = b[11]; c->service = u16(b + 12);
+    c->status = b[8]; c->receiver = b[9]; c->flags = b[10]; c->count = b[11]; c->service = u16(b + 12); c->sex = b[14];
     c->birth = date_at(b + 16); c->leaving = date_at(b + 20); c->guarantee = date_at(b + 24); c->state_pension = date_at(b + 28);
     c->revaluation = u32(b + 32);
     c->avc = u64(b + 40); c->transfer = u64(b + 48); c->contributions = u64(b + 56);
@@ -121,25 +136,28 @@ static int read_block(const uint8_t *b, size_t n, struct record *c)
         c->lines[k] = (struct line){date_at(p), u64(p + 8), u64(p + 16), u64(p + 24), u64(p + 32), u64(p + 40), u64(p + 48), u64(p + 56), u64(p + 64),
             u64(q), u64(q + 8), u64(q + 16)};
     }
-    if (c->kind == 1 ? c->count != 1 : c->kind == 2 ? c->count < 1 || c->count > 4 : 1)
+    if (c->kind < 1 || c->kind > 3 || c->count < 1 || c->count > (c->kind == 2 ? 4 : 1))
         return 3;
-    if (nonzero(b, 2, 2) || nonzero(b, 14, 2) || nonzero(b, 36, 4) || nonzero(b, 68, 4) || nonzero(b, 140, 4) || nonzero(b, 212, 4) || nonzero(b, 284, 4) || nonzero(b, 448, 60))
+    if (nonzero(b, 2, 2) || b[15] || nonzero(b, 36, 4) || nonzero(b, 68, 4) || nonzero(b, 140, 4) || nonzero(b, 212, 4) || nonzero(b, 284, 4) || nonzero(b, 448, 60))
         return 4;
-    int gmp = c->flags >> 1 & 1, transferred = c->flags & 1;
-    if (c->flags >> 2 || (!gmp && !is_zero(c->state_pension)) || (!transferred && c->transfer) || (c->kind == 1 && (transferred || c->contributions)))
+    int transferred = c->flags & 1, gmp = c->flags >> 1 & 1, optant = c->flags >> 2 & 1;
+    if (c->flags >> 3 || (!gmp && !is_zero(c->state_pension)) || (!transferred && c->transfer) || (c->kind != 2 && (transferred || c->contributions)) || (c->kind != 3 && (optant || c->sex)))
         return 4;
+    int dated = c->kind == 2, lump_sum = c->kind == 1 || optant;
     for (unsigned k = 0; k < 4; k++) {
         const struct line *l = &c->lines[k];
         if (k >= c->count && !line_is_zero(l))
             return 4;
-        if (c->kind == 1 && !is_zero(l->date))
+        if (dated ? l->modification != 0 : !is_zero(l->date))
             return 4;
-        if (c->kind == 2 && (l->lump | l->modification | l->scheme_pays_lump | l->debit_lump))
+        if (!lump_sum && (l->lump | l->scheme_pays_lump | l->debit_lump))
             return 4;
         if (k >= 1 && (l->additional | l->dependant))
             return 4;
     }
     if (c->number == 0 || c->status < 1 || c->status > 4 || c->receiver < 1 || c->receiver > 3 || c->revaluation < 10000 || c->revaluation > 100000)
+        return 5;
+    if (c->kind == 3 && c->sex != 1 && c->sex != 2)
         return 5;
     if (c->avc > MOST || c->transfer > MOST || c->contributions > MOST)
         return 5;
@@ -150,7 +168,7 @@ static int read_block(const uint8_t *b, size_t n, struct record *c)
         if (l->pension > MOST || l->additional > MOST || l->survivor > MOST || l->dependant > MOST || l->lump > MOST || l->modification > MOST || l->scheme_pays > MOST || l->scheme_pays_lump > MOST
             || l->debit_pension > MOST || l->debit_survivor > MOST || l->debit_lump > MOST)
             return 5;
-        if (c->kind == 2 && !is_real(l->date))
+        if (dated && !is_real(l->date))
             return 5;
     }
     return 0;
@@ -179,32 +197,34 @@ static int value(const struct record *c, struct items *m)
     if (c->service < 3)
         return 9;
     unsigned years = 0;
-    if (c->kind == 1) {
-        years = age(c->birth, c->guarantee);
-        if (years >= 60)
-            return 11;
-    } else {
+    if (c->kind == 2) {
         for (unsigned k = 0; k < c->count; k++)
             if (!before(c->guarantee, c->lines[k].date))
                 return 11;
+    } else {
+        years = age(c->birth, c->guarantee);
+        if (years >= (c->kind == 1 ? 60 : 65))
+            return 11;
     }
     if ((c->flags & 2) && before(c->state_pension, (struct date){2016, 4, 6}))
         return 10;
-    if (c->kind == 1) {
-        if (years < 22)
-            return 12;
-    } else {
+    const uint16_t *by_age = NULL;
+    if (c->kind == 2) {
         for (unsigned k = 0; k < c->count; k++)
             if (years_ahead(c->guarantee, c->lines[k].date) > 50)
                 return 12;
+    } else {
+        unsigned first = c->kind == 1 ? 22 : 18;
+        if (years < first)
+            return 12;
+        by_age = (c->kind == 1 ? section_1995 : section_2008)[years - first];
     }
     uint64_t pension = 0, lump = 0, survivor = 0, deduction = 0, debit = 0;
     for (unsigned k = 0; k < c->count; k++) {
         const struct line *l = &c->lines[k];
         uint64_t a, b = 0, s, e = 0;
-        if (c->kind == 1) {
-            const uint16_t *row = section_1995[years - 22];
-            a = row[0]; b = row[1]; s = row[2]; e = row[3];
+        if (by_age) {
+            a = by_age[0]; b = by_age[1]; s = by_age[2]; e = by_age[3];
         } else {
             const uint16_t *row = scheme_2015[years_ahead(c->guarantee, l->date) - 1];
             a = row[0]; s = row[1];

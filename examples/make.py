@@ -1,5 +1,5 @@
 #!/usr/bin/env python3
-"""Writes the sample case file to standard output: Example A of 001, Example B of 003, and 512 zero bytes."""
+"""Writes the sample case file to standard output: Example A of 001, Example B of 003, Example D of 001, and 512 zero bytes."""
 import sys
 
 
@@ -35,5 +35,10 @@ EXAMPLE_B = block(head(2, 2, 29, date(1977, 8, 7), date(2017, 9, 1), date(2020, 
     (64, 4, date(2045, 1, 6)),
     (72, 8, 250000), (88, 8, 84375),
 ])
+EXAMPLE_D = block(head(3, 3, 120, date(1969, 5, 1), date(2012, 4, 1), date(2020, 1, 1), 11700) + [
+    (10, 1, 4), (14, 1, 1),  # Choice Optant, male
+    (72, 8, 1087500), (88, 8, 506300),
+    (104, 8, 3150000),  # mandatory lump sum
+])
 
-sys.stdout.buffer.write(EXAMPLE_A + EXAMPLE_B + bytes(512))
+sys.stdout.buffer.write(EXAMPLE_A + EXAMPLE_B + EXAMPLE_D + bytes(512))

@@ -1,20 +1,23 @@
 /* Cash equivalents (transfer values) of the Scottish health service pension
- * scheme: the 1995 section with pension age 60 (kind 1) and the 2015 scheme
- * (kind 2). Link with libcetv.a; nothing else is needed.
+ * scheme: the 1995 section with pension age 60 (kind 1), the 2015 scheme
+ * (kind 2) and the 2008 section, pension age 65 (kind 3). Link with libcetv.a;
+ * nothing else is needed.
  *
  * A case is a block of 512 bytes. A number is never negative and has its low
  * byte first; amounts are whole pence. A date takes four bytes: two for the
  * year, one for the month, one for the day.
  *
  *   offset  bytes  field
- *        0      2  kind: 1 or 2
+ *        0      2  kind: 1, 2 or 3
  *        4      4  case number, 1 or more
  *        8      1  status: 1 deferred, 2 active, 3 pensioner, 4 pension credit
  *        9      1  receiving scheme: 1 defined benefit, 2 defined contribution,
  *                  3 overseas
- *       10      1  flags: 1 transferred in, 2 has a guaranteed minimum pension
- *       11      1  count of lines: 1 in kind 1, 1 to 4 in kind 2
+ *       10      1  flags, added up: 1 transferred in, 2 has a guaranteed
+ *                  minimum pension (GMP), 4 Choice Optant
+ *       11      1  count of lines: 1 to 4 in kind 2, 1 in the other kinds
  *       12      2  complete months of qualifying service
+ *       14      1  sex: 1 male or 2 female in kind 3, zero in the other kinds
  *       16      4  date of birth
  *       20      4  date of leaving
  *       24      4  guarantee date
@@ -36,16 +39,25 @@
  *      508      4  check: each of the 508 bytes before it, times its position
  *                  counted from 1, summed
  *
- * Amounts go to 1,000,000,000 pence. Benefits and divorce debits are as at
- * leaving, modification and Scheme Pays as at the guarantee date. The benefits
- * are those before the divorce debit; a debit pension is of the pension and the
- * additional pension together, and a debit survivor's pension likewise.
+ * Amounts go to 1,000,000,000 pence, dates from 1 January 1900 to 31 December
+ * 2199. Benefits and divorce debits are as at leaving, modification and Scheme
+ * Pays as at the guarantee date. The benefits are those before the divorce
+ * debit; a debit pension is of the pension and the additional pension together,
+ * and a debit survivor's pension likewise. A Choice Optant's lump sum is the
+ * mandatory one, and the pension is the one after commutation.
  *
- * Zero are: every byte that no field names; lines past the count, and their
- * divorce debits; both additional amounts of lines 2 to 4; in kind 1 flag 1, the
- * date of the line and own contributions; in kind 2 the modification, the lump
- * sum and both debits on it. In kind 2 each line has an earlier date than the
- * line before it.
+ * Zero are: every byte that no field names, and every flag not listed; lines
+ * past the count, and their divorce debits; both additional amounts of lines 2
+ * to 4; in kinds 1 and 3 flag 1, the date of the line and own contributions; in
+ * kinds 1 and 2 flag 4 and the sex; in kind 2 the modification; in kind 2, and
+ * in kind 3 without flag 4, the lump sum and both debits on it. A date that is
+ * zero has four zero bytes.
+ *
+ * The tables go by age last birthday at the guarantee date, 22 to 59 in kind 1
+ * and 18 to 64 in kind 3; in kind 2 by the years from the guarantee date to the
+ * line's date, a part of a year counting as one, 1 to 50. In kind 2 line 1 is
+ * dated on or after the 65th birthday, and each line after it has an earlier
+ * date than the line before it.
  */
 #ifndef CETV_H
 #define CETV_H

@@ -60,6 +60,32 @@ static void example_b(uint8_t *block)
 static const char line_b[] =
     "2 2 pay 25900.81 pension 24704.5500 lump 0.0000 survivor 1196.2552 deduct 0.0000 underpin 0.00 avc 0.00\n";
 
+/* Example D of the note for the older sections: a Choice Optant of the 2008
+ * section. */
+static void example_d(uint8_t *block)
+{
+    memset(block, 0, CETV_BLOCK_SIZE);
+    put(block, 0, 2, 3);
+    put(block, 4, 4, 3);
+    block[8] = 1;
+    block[9] = 1;
+    block[10] = 4;
+    block[11] = 1;
+    put(block, 12, 2, 120);
+    block[14] = 1;
+    put_date(block, 16, 1969, 5, 1);
+    put_date(block, 20, 2012, 4, 1);
+    put_date(block, 24, 2020, 1, 1);
+    put(block, 32, 4, 11700);
+    put(block, 72, 8, 1087500);
+    put(block, 88, 8, 506300);
+    put(block, 104, 8, 3150000);
+    put_check(block);
+}
+
+static const char line_d[] =
+    "3 3 pay 198188.62 pension 163372.9500 lump 26167.0500 survivor 8648.6166 deduct 0.0000 underpin 0.00 avc 0.00\n";
+
 /* The line for a block in a buffer of a size, with canary bytes around it. */
 static void formed(const char *what, const uint8_t *block, size_t length, uint32_t place, size_t size, const char *line)
 {
@@ -103,6 +129,18 @@ static void tests(void)
     block[8] = 2;
     put_check(block);
     formed("an active member", block, 512, 3, 256, "3 2 refused 7 status\n");
+
+    example_d(block);
+    formed("a Choice Optant", block, 512, 3, 256, line_d);
+    block[14] = 2;
+    put_check(block);
+    formed("a woman of the same age", block, 512, 3, 256, line_d);
+    block[14] = 3;
+    put_check(block);
+    formed("a sex that is not listed", block, 512, 3, 256, "3 0 refused 5 range\n");
+    block[10] = 0;
+    put_check(block);
+    formed("a lump sum of one who is no Choice Optant", block, 512, 3, 256, "3 0 refused 4 reserved\n");
     memset(block, 0, sizeof block);
     formed("a block of zeros", block, 512, 3, 256, "3 0 refused 3 kind\n");
 }

@@ -25,7 +25,7 @@ LIMIT = 1_000_000_000  # the largest amount, in pence
 # ---------------------------------------------------------------------------
 # The model: a block is decoded and judged in the order of the five refusals.
 
-LAYOUT = "<H2x I 4B H2x" + "HBB" * 4 + "I4x 3Q" + "HBB4x8Q" * 4 + "3Q" * 4 + "60x I"
+LAYOUT = "<H2x I 4B HBx" + "HBB" * 4 + "I4x 3Q" + "HBB4x8Q" * 4 + "3Q" * 4 + "60x I"
 assert struct.calcsize(LAYOUT) == BLOCK
 
 
@@ -39,7 +39,7 @@ def decoded(block):
     def date():
         return tuple(some(3))
 
-    values = some(7) + [date() for _ in range(4)] + some(1) + some(3)
+    values = some(8) + [date() for _ in range(4)] + some(1) + some(3)
     for _ in range(4):
         values.append(date())
         values += some(8)
@@ -52,14 +52,16 @@ def weighted_sum(block):
 
 def reserved_positions(kind, flags, count):
     """Positions of the bytes that must be zero; flag bits are judged apart."""
-    unnamed = [(2, 4), (14, 16), (36, 40), (448, 508)]
+    unnamed = [(2, 4), (15, 16), (36, 40), (448, 508)]
     unnamed += [(start + 4, start + 8) for start in (64, 136, 208, 280)]
     spans = list(unnamed)
     if not flags & 2:
         spans.append((28, 32))  # state pension date
     if not flags & 1:
         spans.append((48, 56))  # transfer-in payment
-    if kind == 1:
+    if kind != 3:
+        spans.append((14, 15))  # sex
+    if kind != 2:
         spans.append((56, 64))  # own contributions
         spans.append((64, 68))  # the line's date
     for line in (1, 2, 3, 4):
@@ -69,8 +71,9 @@ def reserved_positions(kind, flags, count):
             spans.append((start, start + 72))
             spans.append((divorce, divorce + 24))
         if kind == 2:
-            spans.append((start + 40, start + 48))  # lump sum
             spans.append((start + 48, start + 56))  # modification
+        if kind == 2 or kind == 3 and not flags & 4:
+            spans.append((start + 40, start + 48))  # lump sum
             spans.append((start + 64, start + 72))  # Scheme Pays lump sum
             spans.append((divorce + 16, divorce + 24))  # debit lump sum
         if line > 1:
@@ -88,14 +91,14 @@ def real_day(date):
 
 
 def in_range(values):
-    kind, number, status, receiver, flags, count, _months = values[:7]
-    birth, leaving, guarantee, state_pension, revaluation = values[7:12]
-    amounts = list(values[12:15] + values[51:])
+    kind, number, status, receiver, flags, count, _months, sex = values[:8]
+    birth, leaving, guarantee, state_pension, revaluation = values[8:13]
+    amounts = list(values[13:16] + values[52:])
     dates = [birth, leaving, guarantee]
     if flags & 2:
         dates.append(state_pension)
     for line in range(4):
-        start = 15 + 9 * line
+        start = 16 + 9 * line
         amounts += values[start + 1 : start + 9]
         if kind == 2 and line < count:
             dates.append(values[start])
@@ -103,6 +106,7 @@ def in_range(values):
         number >= 1
         and status in (1, 2, 3, 4)
         and receiver in (1, 2, 3)
+        and (kind != 3 or sex in (1, 2))
         and 10_000 <= revaluation <= 100_000
         and all(amount <= LIMIT for amount in amounts)
         and all(real_day(date) for date in dates)
@@ -117,9 +121,9 @@ def outcome(block):
         return 2
     values = decoded(block)
     kind, flags, count = values[0], values[4], values[5]
-    if not (kind == 1 and count == 1 or kind == 2 and 1 <= count <= 4):
+    if not (kind in (1, 3) and count == 1 or kind == 2 and 1 <= count <= 4):
         return 3
-    if flags & 0b11111100 or (kind == 1 and flags & 1):
+    if flags & 0b11111000 or (kind != 2 and flags & 1) or (kind != 3 and flags & 4):
         return 4
     if any(block[position] for position in reserved_positions(kind, flags, count)):
         return 4
@@ -147,6 +151,7 @@ FIELDS = {
     "flags": (10, 1),
     "count": (11, 1),
     "months": (12, 2),
+    "sex": (14, 1),
     "birth": (16, DATE),
     "leaving": (20, DATE),
     "guarantee": (24, DATE),
@@ -233,6 +238,7 @@ def good(fields):
 
 VECTORS = []  # group, label, expectation, block
 LABELS = set()
+BASES = set()  # the cases that vectors start from, each tried once
 FAULTS = []
 _group = ""
 
@@ -260,8 +266,10 @@ def vector(label, expectation, base, changes=None, put=None, text=None):
     fields = base | (changes or {})
     block = sealed(with_bytes(encoded(fields), put or {}))
     vector_of_bytes(label, expectation, block)
-    if outcome(good(base)) != READ:
-        FAULTS.append(f"{_group}: {label}: the case it starts from is not read")
+    if tuple(base.values()) not in BASES:
+        BASES.add(tuple(base.values()))
+        if outcome(good(base)) != READ:
+            FAULTS.append(f"{_group}: {label}: the case it starts from is not read")
     if set(fields) != set(FIELDS):
         FAULTS.append(f"{_group}: {label}: a field name is wrong")
     if expectation == READ:
@@ -302,7 +310,7 @@ KIND_1 = EMPTY | {
     "line 1 debit lump sum": 818591378,
 }
 KIND_1_TEXT = """
-    1 4275878552 4 3 2 1 51383 1951-12-30 2011-4-9 2019-11-28 2015-7-21 99991
+    1 4275878552 4 3 2 1 51383 0 1951-12-30 2011-4-9 2019-11-28 2015-7-21 99991
     683793287 0 0
     0-0-0 922206093 984128735 532668826 633308087 466071267 194159601 161579137 332444340
     0-0-0 0 0 0 0 0 0 0 0
@@ -357,7 +365,7 @@ KIND_2 = EMPTY | {
 }
 KIND_2_HEAD = "2 4260141991 1 2 3"
 KIND_2_MIDDLE = """
-    59860 1979-7-3 2016-10-14 2021-12-1 2046-5-29 98765
+    59860 0 1979-7-3 2016-10-14 2021-12-1 2046-5-29 98765
     213050060 48032426 180588756
 """
 KIND_2_LINES = [
@@ -396,6 +404,55 @@ KIND_2_NO_GMP = KIND_2 | {"flags": 1, "state pension date": NO_DATE}
 KIND_2_NO_TRANSFER = KIND_2 | {"flags": 2, "transfer-in": 0}
 KIND_2_NO_FLAGS = KIND_2_NO_GMP | {"flags": 0, "transfer-in": 0}
 
+# A Choice Optant: the lump sum, its Scheme Pays and its divorce debit may be filled.
+KIND_3 = EMPTY | {
+    "kind": 3,
+    "case number": 2226377382,
+    "status": 3,
+    "receiving scheme": 1,
+    "flags": 6,
+    "count": 1,
+    "months": 47573,
+    "sex": 2,
+    "birth": (1966, 8, 23),
+    "leaving": (2013, 5, 17),
+    "guarantee": (2022, 10, 31),
+    "state pension date": (2033, 9, 25),
+    "revaluation": 97531,
+    "AVC": 965649382,
+    "line 1 pension": 163818375,
+    "line 1 additional pension": 989431511,
+    "line 1 survivor": 848996759,
+    "line 1 dependant's additional": 768783509,
+    "line 1 lump sum": 851551959,
+    "line 1 modification": 466523581,
+    "line 1 Scheme Pays": 618579450,
+    "line 1 Scheme Pays lump sum": 196933853,
+    "line 1 debit pension": 451393247,
+    "line 1 debit survivor": 619701752,
+    "line 1 debit lump sum": 48954284,
+}
+KIND_3_TEXT = """
+    3 2226377382 3 1 6 1 47573 2 1966-8-23 2013-5-17 2022-10-31 2033-9-25 97531
+    965649382 0 0
+    0-0-0 163818375 989431511 848996759 768783509 851551959 466523581 618579450 196933853
+    0-0-0 0 0 0 0 0 0 0 0
+    0-0-0 0 0 0 0 0 0 0 0
+    0-0-0 0 0 0 0 0 0 0 0
+    451393247 619701752 48954284 0 0 0 0 0 0 0 0 0
+"""
+KIND_3_NO_GMP = KIND_3 | {"flags": 4, "state pension date": NO_DATE}
+# What only a Choice Optant may hold.
+OF_CHOICE_OPTANTS = ("line 1 lump sum", "line 1 Scheme Pays lump sum", "line 1 debit lump sum")
+NOT_OPTANT = KIND_3 | {"flags": 2} | {name: 0 for name in OF_CHOICE_OPTANTS}
+NOT_OPTANT_NO_GMP = NOT_OPTANT | {"flags": 0, "state pension date": NO_DATE}
+KIND_3_CASES = {
+    "kind 3, Choice Optant": KIND_3,
+    "kind 3, Choice Optant without GMP": KIND_3_NO_GMP,
+    "kind 3": NOT_OPTANT,
+    "kind 3 without GMP": NOT_OPTANT_NO_GMP,
+}
+
 # 001, Example A. The note gives no length of service.
 EXAMPLE_A = EMPTY | {
     "kind": 1,
@@ -416,7 +473,7 @@ EXAMPLE_A = EMPTY | {
     "line 1 modification": 2000,
 }
 EXAMPLE_A_TEXT = """
-    1 1 1 1 0 1 120 1967-6-1 2012-4-1 2020-2-1 0-0-0 11400 0 0 0
+    1 1 1 1 0 1 120 0 1967-6-1 2012-4-1 2020-2-1 0-0-0 11400 0 0 0
     0-0-0 500000 100000 250000 37500 1500000 2000 0 0
     0-0-0 0 0 0 0 0 0 0 0
     0-0-0 0 0 0 0 0 0 0 0
@@ -441,7 +498,7 @@ EXAMPLE_B = EMPTY | {
     "line 1 survivor": 84375,
 }
 EXAMPLE_B_TEXT = """
-    2 2 1 1 0 1 29 1977-8-7 2017-9-1 2020-12-1 0-0-0 10660 0 0 0
+    2 2 1 1 0 1 29 0 1977-8-7 2017-9-1 2020-12-1 0-0-0 10660 0 0 0
     2045-1-6 250000 0 84375 0 0 0 0 0
     0-0-0 0 0 0 0 0 0 0 0
     0-0-0 0 0 0 0 0 0 0 0
@@ -449,7 +506,57 @@ EXAMPLE_B_TEXT = """
     0 0 0 0 0 0 0 0 0 0 0 0
 """
 
-CASES = {"kind 1": KIND_1, "kind 2": KIND_2}
+# 001, Examples C and D. The note gives no length of service here either.
+EXAMPLE_C = EMPTY | {
+    "kind": 3,
+    "case number": 3,
+    "status": 1,
+    "receiving scheme": 1,
+    "count": 1,
+    "months": 120,
+    "sex": 2,
+    "birth": (1957, 4, 1),
+    "leaving": (2015, 10, 1),
+    "guarantee": (2020, 10, 1),
+    "revaluation": 10520,
+    "line 1 pension": 250000,
+    "line 1 survivor": 93800,
+}
+EXAMPLE_C_TEXT = """
+    3 3 1 1 0 1 120 2 1957-4-1 2015-10-1 2020-10-1 0-0-0 10520 0 0 0
+    0-0-0 250000 0 93800 0 0 0 0 0
+    0-0-0 0 0 0 0 0 0 0 0
+    0-0-0 0 0 0 0 0 0 0 0
+    0-0-0 0 0 0 0 0 0 0 0
+    0 0 0 0 0 0 0 0 0 0 0 0
+"""
+EXAMPLE_D = EMPTY | {
+    "kind": 3,
+    "case number": 3,
+    "status": 1,
+    "receiving scheme": 1,
+    "flags": 4,
+    "count": 1,
+    "months": 120,
+    "sex": 1,
+    "birth": (1969, 5, 1),
+    "leaving": (2012, 4, 1),
+    "guarantee": (2020, 1, 1),
+    "revaluation": 11700,
+    "line 1 pension": 1087500,
+    "line 1 survivor": 506300,
+    "line 1 lump sum": 3150000,
+}
+EXAMPLE_D_TEXT = """
+    3 3 1 1 4 1 120 1 1969-5-1 2012-4-1 2020-1-1 0-0-0 11700 0 0 0
+    0-0-0 1087500 0 506300 0 3150000 0 0 0
+    0-0-0 0 0 0 0 0 0 0 0
+    0-0-0 0 0 0 0 0 0 0 0
+    0-0-0 0 0 0 0 0 0 0 0
+    0 0 0 0 0 0 0 0 0 0 0 0
+"""
+
+CASES = {"kind 1": KIND_1, "kind 2": KIND_2, "kind 3": KIND_3}
 
 # Amounts that may be other than zero, each with a case that holds it.
 AMOUNTS = [
@@ -490,6 +597,18 @@ AMOUNTS = [
     ("kind 2", KIND_2, "line 3 debit survivor"),
     ("kind 2", KIND_2, "line 4 debit pension"),
     ("kind 2", KIND_2, "line 4 debit survivor"),
+    ("kind 3", KIND_3, "AVC"),
+    ("kind 3", KIND_3, "line 1 pension"),
+    ("kind 3", KIND_3, "line 1 additional pension"),
+    ("kind 3", KIND_3, "line 1 survivor"),
+    ("kind 3", KIND_3, "line 1 dependant's additional"),
+    ("kind 3", KIND_3, "line 1 lump sum"),
+    ("kind 3", KIND_3, "line 1 modification"),
+    ("kind 3", KIND_3, "line 1 Scheme Pays"),
+    ("kind 3", KIND_3, "line 1 Scheme Pays lump sum"),
+    ("kind 3", KIND_3, "line 1 debit pension"),
+    ("kind 3", KIND_3, "line 1 debit survivor"),
+    ("kind 3", KIND_3, "line 1 debit lump sum"),
 ]
 
 # Dates that must be real days, each with a case that holds it.
@@ -503,6 +622,10 @@ DATES = [
     ("kind 2", KIND_2, "line 2 date"),
     ("kind 2", KIND_2, "line 3 date"),
     ("kind 2", KIND_2, "line 4 date"),
+    ("kind 3", KIND_3, "birth"),
+    ("kind 3", KIND_3, "leaving"),
+    ("kind 3", KIND_3, "guarantee"),
+    ("kind 3", KIND_3, "state pension date"),
 ]
 
 
@@ -518,8 +641,11 @@ def accepted():
         divorce = KIND_2_DIVORCE[:count] + [NO_DIVORCE_TEXT] * (4 - count)
         text = f"{KIND_2_HEAD} {count} {KIND_2_MIDDLE}" + "".join(lines + divorce)
         vector(f"kind 2, lines {count}", READ, kind_2_of(count), text=text)
+    vector("kind 3", READ, KIND_3, text=KIND_3_TEXT)
     vector("001, Example A", READ, EXAMPLE_A, text=EXAMPLE_A_TEXT)
     vector("003, Example B", READ, EXAMPLE_B, text=EXAMPLE_B_TEXT)
+    vector("001, Example C", READ, EXAMPLE_C, text=EXAMPLE_C_TEXT)
+    vector("001, Example D", READ, EXAMPLE_D, text=EXAMPLE_D_TEXT)
     vector("kind 1 without GMP", READ, KIND_1_NO_GMP)
     vector("kind 2, flags 0, with own contributions", READ, KIND_2_NO_FLAGS)
     vector("kind 2, flags 1", READ, KIND_2_NO_GMP)
@@ -535,6 +661,26 @@ def accepted():
         vector(f"{label}, months 2", READ, base, {"months": 2})
         vector(f"{label}, months 256", READ, base, {"months": 256})
         vector(f"{label}, months 65535", READ, base, {"months": 65535})
+
+
+def kind_3():
+    group("accepted in kind 3")
+    for label, base in KIND_3_CASES.items():
+        vector(f"{label}, a man", READ, base, {"sex": 1})
+        vector(f"{label}, a woman", READ, base, {"sex": 2})
+    vector("Choice Optant, none of the lump sum and its debits", READ, KIND_3, {name: 0 for name in OF_CHOICE_OPTANTS})
+    for name in OF_CHOICE_OPTANTS:
+        vector(f"Choice Optant, {name} 1", READ, KIND_3, {name: 1})
+        alone = {other: 0 for other in OF_CHOICE_OPTANTS if other != name}
+        vector(f"Choice Optant, {name} alone", READ, KIND_3, alone)
+        vector(f"Choice Optant, {name} 0", READ, KIND_3, {name: 0})
+        vector(f"Choice Optant without GMP, {name} {LIMIT}", READ, KIND_3_NO_GMP, {name: LIMIT})
+    optant = {"kind": 3, "flags": 6, "sex": 1}
+    vector("a kind 1 case as that of a Choice Optant", READ, KIND_1, optant)
+    vector("a kind 3 case as kind 1", READ, NOT_OPTANT, {"kind": 1, "sex": 0})
+    vector("every amount 0, no flag", READ, NOT_OPTANT_NO_GMP, {name: 0 for at, _, name in AMOUNTS if at == "kind 3"})
+    full = {name: LIMIT for at, _, name in AMOUNTS if at == "kind 3" and name not in OF_CHOICE_OPTANTS}
+    vector(f"every amount {LIMIT}, no flag", READ, NOT_OPTANT_NO_GMP, full)
 
 
 def left_to_valuing():
@@ -553,6 +699,16 @@ def left_to_valuing():
     vector("total below zero", READ, EXAMPLE_A, {"line 1 modification": LIMIT})
     vector("divorce debit above all benefits", READ, EXAMPLE_A, {"line 1 debit pension": LIMIT})
     vector("divorce debit of a benefit not held", READ, EXAMPLE_B, {"line 1 pension": 0, "line 1 debit pension": 1})
+    vector("kind 3, leaving before birth", READ, KIND_3, {"birth": late, "leaving": early})
+    vector("kind 3, birth and leaving equal", READ, KIND_3, {"birth": early, "leaving": early})
+    vector("kind 3, guarantee before leaving", READ, KIND_3, {"guarantee": early})
+    vector("kind 3, age 65 and more", READ, EXAMPLE_D, {"birth": (1930, 6, 1)})
+    vector("kind 3, age below 18", READ, EXAMPLE_D, {"birth": (2010, 6, 1)})
+    vector("kind 3, state pension date 5 April 2016", READ, KIND_3, {"state pension date": (2016, 4, 5)})
+    vector("kind 3, Scheme Pays above pension", READ, EXAMPLE_D, {"line 1 Scheme Pays": LIMIT})
+    vector("kind 3, Scheme Pays lump sum above lump sum", READ, EXAMPLE_D, {"line 1 Scheme Pays lump sum": LIMIT})
+    vector("kind 3, total below zero", READ, EXAMPLE_D, {"line 1 modification": LIMIT})
+    vector("kind 3, divorce debit above all benefits", READ, EXAMPLE_D, {"line 1 debit lump sum": LIMIT})
 
 
 # ---------------------------------------------------------------------------
@@ -594,7 +750,7 @@ def check():
         vector_of_bytes(f"{label}, check 0", 2, with_check(block, 0))
         vector_of_bytes(f"{label}, check 4294967295", 2, with_check(block, 2**32 - 1))
         divorce = (352, 359, 368, 375, 376, 399, 400, 423, 424, 447, 448)
-        for position in (0, 2, 4, 75, 255, 256, 287, 304, *divorce, 507):
+        for position in (0, 2, 4, 14, 15, 75, 255, 256, 287, 304, *divorce, 507):
             wrong = with_bytes(block, {position: block[position] ^ 1})
             vector_of_bytes(f"{label}, byte {position} changed", 2, wrong)
         vector_of_bytes(f"{label}, bytes 4 and 5 swapped", 2, swapped(block, 4, 5))
@@ -637,6 +793,7 @@ def stated_checks():
         ("zeros", {}, 0),
         ("zeros but byte 0 is 1", {0: 1}, 1),
         ("zeros but byte 0 is 2", {0: 2}, 2),
+        ("zeros but byte 0 is 3", {0: 3}, 3),
         ("zeros but byte 255 is 1", {255: 1}, 256),
         ("zeros but byte 256 is 255", {256: 255}, 65_535),
         ("zeros but byte 507 is 1", {507: 1}, 508),
@@ -696,7 +853,7 @@ def check_kept():
     # Byte 4 counts 5 times, byte 9 counts 10 times, byte 14 counts 15 times.
     changes = {"case number": number - 4, "receiving scheme": 4}
     kept("case number 4 less, receiving scheme 2 more", 5, changes)
-    kept("case number 3 less, byte 14 set", 4, {"case number": number - 3}, {14: 1})
+    kept("case number 3 less, sex 1", 4, {"case number": number - 3, "sex": 1})
     # Byte 0 counts once, byte 1 twice.
     kept("kind 256", 3, {"kind": 256})
 
@@ -704,23 +861,30 @@ def check_kept():
 def kind():
     group("3 kind")
     vector_of_bytes("block of zeros", 3, bytes(512))
-    for number in (0, 3, 4, 128, 255, 256, 256 + 1, 256 + 2, 512, 2**15 + 1, 2**15 + 2, 65535):
+    for number in (0, 4, 5, 128, 255, 256, 256 + 1, 256 + 2, 512, 2**15 + 1, 2**15 + 2, 65535):
         vector(f"kind {number} in a kind 1 case", 3, KIND_1, {"kind": number})
-    for number in (0, 3, 256 + 1, 256 + 2, 512, 65535):
+    for number in (0, 4, 256 + 1, 256 + 2, 512, 65535):
         vector(f"kind {number} in a kind 2 case", 3, KIND_2, {"kind": number})
         vector(f"kind {number}, one line", 3, kind_2_of(1), {"kind": number})
+    for number in (0, 4, 5, 255, 256, 256 + 3, 512 + 3, 768, 2**15 + 3, 65535):
+        for label, base in KIND_3_CASES.items():
+            vector(f"kind {number} in place of {label}", 3, base, {"kind": number})
     for count in (0, 2, 3, 4, 5, 129, 255):
         vector(f"kind 1, count {count}", 3, KIND_1, {"count": count})
+        vector(f"kind 3, count {count}", 3, NOT_OPTANT, {"count": count})
+        vector(f"kind 3, Choice Optant, count {count}", 3, KIND_3, {"count": count})
     for count in (0, 5, 6, 128, 132, 255):
         vector(f"kind 2, count {count}", 3, KIND_2, {"count": count})
     vector("kind 2, count 0, no lines", 3, kind_2_of(1), {"count": 0})
     vector("kind 1 with four lines", 3, KIND_2, {"kind": 1})
+    vector("kind 3 with four lines", 3, KIND_2, {"kind": 3})
+    vector("kind 3 with four lines and a sex", 3, KIND_2, {"kind": 3, "sex": 1})
 
 
 # ---------------------------------------------------------------------------
 # Refusal 4.
 
-UNNAMED = [(2, 3), (14, 15), (36, 39), (68, 71), (140, 143), (212, 215), (284, 287), (448, 507)]
+UNNAMED = [(2, 3), (15, 15), (36, 39), (68, 71), (140, 143), (212, 215), (284, 287), (448, 507)]
 
 
 def unnamed_bytes():
@@ -730,17 +894,41 @@ def unnamed_bytes():
             bit = 1 << position % 8
             vector(f"kind 2, byte {position}, bit {bit}", 4, KIND_2, put={position: bit})
     for first, last in UNNAMED:
-        for position in (first, last):
+        for position in sorted({first, last}):
             vector(f"kind 1, byte {position}, 255", 4, KIND_1, put={position: 255})
-    vector("kind 1, every unnamed byte 255", 4, KIND_1, put={
-        position: 255 for first, last in UNNAMED for position in range(first, last + 1)
-    })
+            vector(f"kind 3, byte {position}, 255", 4, KIND_3, put={position: 255})
+            vector(f"kind 3, not a Choice Optant, byte {position}, 1", 4, NOT_OPTANT, put={position: 1})
+    every = {position: 255 for first, last in UNNAMED for position in range(first, last + 1)}
+    vector("kind 1, every unnamed byte 255", 4, KIND_1, put=every)
+    vector("kind 3, every unnamed byte 255", 4, KIND_3, put=every)
+
+
+def sex():
+    """Byte 14 is named and byte 15 is not."""
+    group("4 and 5 sex")
+    others = [("kind 1", KIND_1), ("kind 1 without GMP", KIND_1_NO_GMP)]
+    others += [(f"kind 2, lines {count}", kind_2_of(count)) for count in (1, 4)]
+    others += [("kind 2 without flags", KIND_2_NO_FLAGS)]
+    for label, base in others:
+        for code in (1, 2, 3, 64, 255):
+            vector(f"{label}, sex {code}", 4, base, {"sex": code})
+    for label, base in KIND_3_CASES.items():
+        for code in (0, 3, 4, 129, 130, 255):
+            vector(f"{label}, sex {code}", 5, base, {"sex": code})
+        for byte in (1, 2, 128, 255):
+            vector(f"{label}, byte 15, {byte}", 4, base, put={15: byte})
+        vector(f"{label}, the sex in byte 15", 4, base, {"sex": 0}, put={15: 1})
+    for label, base in (("kind 1", KIND_1), ("kind 2", KIND_2)):
+        for byte in (1, 2, 128):
+            vector(f"{label}, byte 15, {byte}", 4, base, put={15: byte})
+    vector("kind 1, bytes 14 and 15, 255", 4, KIND_1, {"sex": 255}, put={15: 255})
 
 
 def divorce_bytes():
     """Bytes 352 to 447 set one at a time in cases without a divorce debit, and some together."""
     group("divorce debits, byte by byte")
     one, two = without_divorce(KIND_1), without_divorce(KIND_2)
+    optant, not_optant = without_divorce(KIND_3), without_divorce(NOT_OPTANT)
     for line, start in DIVORCE_STARTS.items():
         for name, (offset, size) in DIVORCE_FIELDS.items():
             for place in range(size):
@@ -750,6 +938,9 @@ def divorce_bytes():
                 in_reach = READ if place < 4 else 5
                 vector(f"kind 1, {label}", in_reach if line == 1 else 4, one, put_in)
                 vector(f"kind 2, {label}", 4 if name == "debit lump sum" else in_reach, two, put_in)
+                vector(f"kind 3, Choice Optant, {label}", in_reach if line == 1 else 4, optant, put_in)
+                open_to_all = line == 1 and name != "debit lump sum"
+                vector(f"kind 3, {label}", in_reach if open_to_all else 4, not_optant, put_in)
     vector("kind 1, byte 352, 255", READ, one, {"line 1 debit pension": 255})
     vector("kind 2, byte 352 and status 5", 5, two, {"line 1 debit pension": 1, "status": 5})
     spans = [("352 to 375", 376, 5, 4), ("352 to 447", 448, 4, 4), ("352 to 507", 508, 4, 4)]
@@ -757,6 +948,8 @@ def divorce_bytes():
         put = {position: 255 for position in range(352, end)}
         vector(f"kind 1, bytes {label}, 255", in_kind_1, one, put=put)
         vector(f"kind 2, bytes {label}, 255", in_kind_2, two, put=put)
+        vector(f"kind 3, Choice Optant, bytes {label}, 255", in_kind_1, optant, put=put)
+        vector(f"kind 3, bytes {label}, 255", in_kind_2, not_optant, put=put)
 
 
 def flag_bits():
@@ -773,6 +966,16 @@ def flag_bits():
     vector("kind 1, transfer flag and payment", 4, KIND_1_NO_GMP, {"flags": 1} | paid_in)
     vector("kind 1, flags 255", 4, KIND_1, {"flags": 255})
     vector("kind 2, flags 255", 4, KIND_2, {"flags": 255})
+    vector("kind 1, flag 4 with a sex", 4, KIND_1, {"flags": 6, "sex": 1})
+    vector("kind 2, one line, flag 4", 4, kind_2_of(1), {"flags": 7})
+    for label, base in KIND_3_CASES.items():
+        for bit in (8, 16, 32, 64, 128):
+            vector(f"{label}, flag {bit}", 4, base, {"flags": base["flags"] + bit})
+        transfer = {"flags": base["flags"] + 1}
+        vector(f"{label}, transfer flag", 4, base, transfer)
+        vector(f"{label}, transfer flag and payment", 4, base, transfer | paid_in)
+        vector(f"{label}, transfer flag, payment and own contributions", 4, base, transfer | paid_in | {"own contributions": 1})
+        vector(f"{label}, flags 255", 4, base, {"flags": 255})
 
 
 def each_byte_set(label, base, name):
@@ -801,6 +1004,25 @@ def without_their_flag():
     first_and_last_byte_set("kind 2 without flags", KIND_2_NO_FLAGS, "transfer-in")
     first_and_last_byte_set("kind 1", KIND_1, "transfer-in")
     first_and_last_byte_set("kind 1 without GMP", KIND_1_NO_GMP, "transfer-in")
+    for label, base in KIND_3_CASES.items():
+        each_byte_set(label, base, "transfer-in")
+        if not base["flags"] & 2:
+            each_byte_set(label, base, "state pension date")
+            vector(f"{label}, state pension date real", 4, base, real)
+    for name in OF_CHOICE_OPTANTS:
+        each_byte_set("kind 3", NOT_OPTANT, name)
+        each_byte_set("kind 3 without GMP", NOT_OPTANT_NO_GMP, name)
+        for pence in (2, LIMIT, LIMIT + 1, 2**64 - 1):
+            vector(f"kind 3, {name} {pence}", 4, NOT_OPTANT, {name: pence})
+        vector(f"kind 3, a Choice Optant's {name} without the flag", 4, KIND_3, {"flags": 2} | {
+            other: 0 for other in OF_CHOICE_OPTANTS if other != name
+        })
+    vector("kind 3, a Choice Optant's case without the flag", 4, KIND_3, {"flags": 2})
+    vector("kind 3, a Choice Optant's case without GMP and without the flag", 4, KIND_3_NO_GMP, {"flags": 0})
+    vector("001, Example D without the flag", 4, EXAMPLE_D, {"flags": 0})
+    vector("a kind 1 case as kind 3", 4, KIND_1, {"kind": 3})
+    vector("a kind 1 case as kind 3, with a sex", 4, KIND_1, {"kind": 3, "sex": 1})
+    vector("a kind 1 case as kind 3, with flag 4", 5, KIND_1, {"kind": 3, "flags": 6})
 
 
 def must_be_zero_by_kind():
@@ -824,10 +1046,26 @@ def must_be_zero_by_kind():
     vector("a kind 1 case as kind 2", 4, KIND_1, {"kind": 2})
     vector("001, Example A as kind 2", 4, EXAMPLE_A, {"kind": 2})
 
+    group("4 in kind 3")
+    for label, base in KIND_3_CASES.items():
+        each_byte_set(label, base, "own contributions")
+        each_byte_set(label, base, "line 1 date")
+        vector(f"{label}, line's date real", 4, base, {"line 1 date": (2031, 8, 23)})
+        for name in ("transfer-in", "own contributions"):
+            for pence in (2, LIMIT, LIMIT + 1, 2**64 - 1):
+                vector(f"{label}, {name} {pence}", 4, base, {name: pence})
+    vector("a kind 2 case as kind 3", 4, kind_2_of(1), {"kind": 3})
+    vector("a kind 2 case as kind 3, with a sex", 4, kind_2_of(1), {"kind": 3, "sex": 2})
+    vector("003, Example B as kind 3, with a sex", 4, EXAMPLE_B, {"kind": 3, "sex": 2})
+    vector("001, Example C as kind 1", 4, EXAMPLE_C, {"kind": 1})
+    vector("001, Example C as kind 2", 4, EXAMPLE_C, {"kind": 2})
+    vector("001, Example D as kind 1", 4, EXAMPLE_D, {"kind": 1})
+    vector("001, Example D as kind 1, without a sex", 4, EXAMPLE_D, {"kind": 1, "sex": 0})
+
 
 def lines_past_the_count():
     group("4 lines past the count")
-    cases = [("kind 1", KIND_1, 1)]
+    cases = [("kind 1", KIND_1, 1), ("kind 3", KIND_3, 1), ("kind 3, not a Choice Optant", NOT_OPTANT, 1)]
     cases += [(f"kind 2, count {count}", kind_2_of(count), count) for count in (1, 2, 3)]
     for label, base, count in cases:
         for line in range(count + 1, 5):
@@ -878,6 +1116,10 @@ def amounts():
         vector(f"{label}, {name} 2^32", 5, base, {name: 2**32})
         vector(f"{label}, {name} 2^63", 5, base, {name: 2**63})
         vector(f"{label}, {name} 2^64-1", 5, base, {name: 2**64 - 1})
+    for name in [name for at, _, name in AMOUNTS if at == "kind 3"]:
+        if name not in OF_CHOICE_OPTANTS:
+            vector(f"kind 3, not a Choice Optant, {name} {LIMIT}", READ, NOT_OPTANT, {name: LIMIT})
+            vector(f"kind 3, not a Choice Optant, {name} {LIMIT + 1}", 5, NOT_OPTANT, {name: LIMIT + 1})
     for bit in range(30):
         vector(f"one bit of a pension, 2^{bit}", READ, KIND_1, {"line 1 pension": 2**bit})
     for bit in range(30, 64):
@@ -940,10 +1182,16 @@ def zero_dates():
         for label, base in (("kind 2", KIND_2), ("kind 2 without flags", KIND_2_NO_FLAGS)):
             vector(f"{label}, {name} zero", 5, base, {name: NO_DATE})
         vector(f"kind 1 without GMP, {name} zero", 5, KIND_1_NO_GMP, {name: NO_DATE})
+    for label, base in KIND_3_CASES.items():
+        for name in ("birth", "leaving", "guarantee"):
+            vector(f"{label}, {name} zero", 5, base, {name: NO_DATE})
     flag = {"flags": 2, "state pension date": NO_DATE}
+    vector("kind 3, GMP flag set, state pension date zero", 5, NOT_OPTANT_NO_GMP, flag)
     vector("kind 1, GMP flag set, state pension date zero", 5, KIND_1_NO_GMP, flag)
     flag = {"flags": 3, "state pension date": NO_DATE}
     vector("kind 2, GMP flag set, state pension date zero", 5, KIND_2_NO_GMP, flag)
+    flag = {"flags": 6, "state pension date": NO_DATE}
+    vector("kind 3, Choice Optant, GMP flag set, state pension date zero", 5, KIND_3_NO_GMP, flag)
     for count in (1, 2, 3, 4):
         for line in range(1, count + 1):
             zero = {f"line {line} date": NO_DATE}
@@ -978,10 +1226,13 @@ def order_1():
     wrong = with_check(two, 0)
     vector_of_bytes("511 bytes, byte 100 changed", 1, with_bytes(two, {100: two[100] ^ 1})[:511])
     vector_of_bytes("513 bytes and check wrong", 1, wrong + b"\0")
-    vector_of_bytes("513 bytes and kind 3", 1, good(KIND_1 | {"kind": 3}) + b"\0")
-    vector_of_bytes("511 bytes and kind 3", 1, good(KIND_1 | {"kind": 3})[:511])
+    vector_of_bytes("513 bytes and kind 4", 1, good(KIND_1 | {"kind": 4}) + b"\0")
+    vector_of_bytes("511 bytes and kind 4", 1, good(KIND_1 | {"kind": 4})[:511])
     vector_of_bytes("513 bytes and byte 2 set", 1, sealed(with_bytes(one, {2: 1})) + b"\0")
     vector_of_bytes("513 bytes and case number 0", 1, good(KIND_1 | {"case number": 0}) + b"\0")
+    vector_of_bytes("513 bytes and sex 1 in kind 1", 1, good(KIND_1 | {"sex": 1}) + b"\0")
+    vector_of_bytes("513 bytes and sex 0 in kind 3", 1, good(KIND_3 | {"sex": 0}) + b"\0")
+    vector_of_bytes("511 bytes and sex 3 in kind 3", 1, good(KIND_3 | {"sex": 3})[:511])
 
 
 def order_2():
@@ -1002,27 +1253,40 @@ def order_2():
     unsealed("check and line 4 debit survivor above", KIND_2, {"line 4 debit survivor": LIMIT + 1})
     unsealed("check and month 13", KIND_2, {"birth": (1979, 13, 3)})
     unsealed("check, kind, byte and range", KIND_2, {"kind": 9, "status": 0}, {450: 7})
+    unsealed("check and sex 1 in kind 1", KIND_1, {"sex": 1})
+    unsealed("check and sex 0 in kind 3", KIND_3, {"sex": 0})
+    unsealed("check and sex 1 for 2", KIND_3, {"sex": 1})
+    unsealed("check and byte 15", KIND_3, {}, {15: 1})
+    unsealed("check and kind 3 for 1", KIND_1, {"kind": 3})
+    unsealed("check and count 2 in kind 3", KIND_3, {"count": 2})
+    unsealed("check and flag 4 missing", KIND_3, {"flags": 2})
+    unsealed("check and own contributions in kind 3", KIND_3, {"own contributions": 1})
 
 
 def order_3():
     group("order, 3 first")
     vector("kind 0 and byte 2", 3, KIND_1, {"kind": 0}, {2: 1})
-    vector("kind 3 and byte 507", 3, KIND_2, {"kind": 3}, {507: 1})
-    vector("kind 3 and byte 14", 3, KIND_1, {"kind": 3}, {14: 1})
+    vector("kind 4 and byte 507", 3, KIND_2, {"kind": 4}, {507: 1})
+    vector("kind 4 and sex 1", 3, KIND_1, {"kind": 4, "sex": 1})
     vector("kind 257 and flag 128", 3, KIND_1, {"kind": 257, "flags": 130})
     vector("kind 1, count 2 and line 3 pension", 3, KIND_1, {"count": 2, "line 3 pension": 1})
     vector("kind 1, count 2 and byte 36", 3, KIND_1, {"count": 2}, {36: 1})
     vector("kind 2, count 5 and lump sum", 3, KIND_2, {"count": 5, "line 1 lump sum": 1})
     vector("kind 1, count 2 and line 3 debit pension", 3, KIND_1, {"count": 2, "line 3 debit pension": 1})
     vector("kind 2, count 5 and debit lump sum", 3, KIND_2, {"count": 5, "line 1 debit lump sum": 1})
-    vector("kind 3 and byte 448", 3, KIND_1, {"kind": 3}, {448: 1})
-    vector("kind 3 and debit pension above", 3, KIND_1, {"kind": 3, "line 1 debit pension": LIMIT + 1})
+    vector("kind 4 and byte 448", 3, KIND_1, {"kind": 4}, {448: 1})
+    vector("kind 4 and debit pension above", 3, KIND_1, {"kind": 4, "line 1 debit pension": LIMIT + 1})
     vector("kind 2, count 0 with lines", 3, KIND_2, {"count": 0})
     vector("kind 0 and case number 0", 3, KIND_1, {"kind": 0, "case number": 0})
-    vector("kind 3 and birth zero", 3, KIND_1, {"kind": 3, "birth": NO_DATE})
+    vector("kind 4 and birth zero", 3, KIND_1, {"kind": 4, "birth": NO_DATE})
     vector("kind 2, count 5 and status 0", 3, KIND_2, {"count": 5, "status": 0})
     vector("kind 2, count 0 and AVC above", 3, KIND_2, {"count": 0, "AVC": LIMIT + 1})
-    vector("kind 3, byte 2 and case number 0", 3, KIND_2, {"kind": 3, "case number": 0}, {2: 1})
+    vector("kind 4, byte 2 and case number 0", 3, KIND_2, {"kind": 4, "case number": 0}, {2: 1})
+    for code in (1, 2, 255):
+        vector(f"kind 1, count 2 and sex {code}", 3, KIND_1, {"count": 2, "sex": code})
+        vector(f"kind 2, count 5 and sex {code}", 3, KIND_2, {"count": 5, "sex": code})
+    vector("kind 1, count 0 and flag 4", 3, KIND_1, {"count": 0, "flags": 6})
+    vector("kind 2, count 0 and flag 4", 3, KIND_2, {"count": 0, "flags": 7})
 
 
 def order_4():
@@ -1083,6 +1347,69 @@ def order_4_divorce():
     })
 
 
+# Faults of a kind 3 case by their refusal: fields changed, flags added or bytes put. Any two may be made together.
+THREES = {"kind 4": {"kind": 4}, "count 2": {"count": 2}}
+FOURS = {
+    "line's date": {"line 1 date": (2031, 8, 23)},
+    "own contributions": {"own contributions": 1},
+    "own contributions above": {"own contributions": LIMIT + 1},
+    "transfer-in": {"transfer-in": 1},
+    "line 2 pension": {"line 2 pension": 1},
+    "line 4 debit lump sum": {"line 4 debit lump sum": 1},
+    "line 2 additional pension": {"line 2 additional pension": LIMIT + 1},
+}
+FOURS_OF_FLAGS = {"transfer flag": 1, "flag 8": 8, "flag 128": 128}
+FOURS_OF_BYTES = {"byte 2": {2: 1}, "byte 15": {15: 1}, "byte 36": {36: 1}, "byte 68": {68: 1}, "byte 507": {507: 1}}
+FIVES = {
+    "sex 0": {"sex": 0},
+    "sex 3": {"sex": 3},
+    "case number 0": {"case number": 0},
+    "revaluation 0": {"revaluation": 0},
+    "AVC above": {"AVC": LIMIT + 1},
+    "birth no real day": {"birth": (1966, 2, 29)},
+}
+
+
+def order_in_kind_3():
+    """Each fault with each of a later refusal, for a Choice Optant and for another member."""
+    for optant, base in ((True, KIND_3), (False, NOT_OPTANT)):
+        member = "Choice Optant" if optant else "no Choice Optant"
+        group(f"order in kind 3, {member}")
+        fours = {label: (changes, {}) for label, changes in FOURS.items()}
+        fours |= {label: ({"flags": base["flags"] + bit}, {}) for label, bit in FOURS_OF_FLAGS.items()}
+        fours |= {label: ({}, put) for label, put in FOURS_OF_BYTES.items()}
+        fives = dict(FIVES)
+        for name in OF_CHOICE_OPTANTS:
+            if optant:
+                fives[f"{name} above"] = {name: LIMIT + 1}
+            else:
+                fours[name] = ({name: 1}, {})
+                fours[f"{name} above"] = ({name: LIMIT + 1}, {})
+        for label, (changes, put) in fours.items():
+            vector(f"{label} alone", 4, base, changes, put)
+            for three, wrong in THREES.items():
+                vector(f"{three} and {label}", 3, base, wrong | changes, put)
+            for five, wrong in fives.items():
+                vector(f"{label} and {five}", 4, base, changes | wrong, put)
+        for five, wrong in fives.items():
+            vector(f"{five} alone", 5, base, wrong)
+            for three, changes in THREES.items():
+                vector(f"{three} and {five}", 3, base, changes | wrong)
+        vector("every range broken", 5, base, {name: value for wrong in fives.values() for name, value in wrong.items()})
+
+
+def order_of_the_sex():
+    """The sex and flag 4 in the kinds that have neither, with each range broken."""
+    group("order, sex and flag 4 in kinds 1 and 2")
+    for kind_label, base in (("kind 1", KIND_1), ("kind 2", KIND_2)):
+        for five, wrong in FIVES.items():
+            if "sex" not in wrong:
+                vector(f"{kind_label}, sex 1 and {five}", 4, base, {"sex": 1} | wrong)
+                vector(f"{kind_label}, flag 4 and {five}", 4, base, {"flags": base["flags"] + 4} | wrong)
+        vector(f"{kind_label}, sex 1 and flag 4", 4, base, {"sex": 1, "flags": base["flags"] + 4})
+        vector(f"{kind_label}, sex 1 and byte 507", 4, base, {"sex": 1}, {507: 1})
+
+
 def several_ranges():
     group("several ranges broken")
     vector("case number, status and receiving scheme 0", 5, KIND_1, {
@@ -1104,6 +1431,7 @@ def several_ranges():
 
 def all_vectors():
     accepted()
+    kind_3()
     left_to_valuing()
     length()
     check()
@@ -1113,6 +1441,7 @@ def all_vectors():
     check_kept()
     kind()
     unnamed_bytes()
+    sex()
     divorce_bytes()
     flag_bits()
     without_their_flag()
@@ -1128,11 +1457,13 @@ def all_vectors():
     order_2()
     order_3()
     order_4()
+    order_in_kind_3()
+    order_of_the_sex()
     several_ranges()
 
 
 def wide_values():
-    """In the two full cases the low three bytes of each amount are above 127; no two are equal."""
+    """In the full case of each kind the low three bytes of each amount are above 127; no two are equal."""
     for label, base in CASES.items():
         held = [base[name] for at, _, name in AMOUNTS if at == label]
         if len(set(held)) != len(held):

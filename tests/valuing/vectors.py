@@ -1,7 +1,7 @@
 #!/usr/bin/env python3
 """Test vectors for valuing a case.
 
-    vectors.py stdin    the cases: 63 numbers of 64 bits each, low byte first
+    vectors.py stdin    the cases: 64 numbers of 64 bits each, low byte first
     vectors.py stdout   the line expected for each case
     vectors.py list     number, label and stated expectation of each vector
 
@@ -9,8 +9,10 @@ Each vector states its expectation, worked by hand or taken from 01, the two
 guidance notes or a change request: the payment with its items, or the number of the refusal. Where
 every row of the tables is tried, the table's own figures are stated. The script
 also holds a model of valuing, and stops with exit code 1 when the model and a
-stated expectation differ, before it writes anything. The factors are those of
-figures/factors.txt. It needs Python 3.9 or later and its standard library.
+stated expectation differ, before it writes anything. The factors of the 1995
+section and the 2015 scheme are those of figures/factors.txt; those of the 2008
+section stand here, and the script stops when the two differ. It needs Python 3.9
+or later and its standard library.
 """
 
 import datetime
@@ -62,6 +64,7 @@ HEAD = [
     "flags",
     "count",
     "months",
+    "sex",
     "birth",
     "leaving",
     "guarantee",
@@ -73,14 +76,14 @@ HEAD = [
 ]
 FIELDS = HEAD + [f"line {i} {name}" for i in LINES for name in ["date"] + AMOUNTS]
 FIELDS += [f"line {i} {name}" for i in LINES for name in DIVORCE_DEBITS]
-DATES = [name for name in FIELDS if name in HEAD[7:11] or name.endswith(" date")]
+DATES = [name for name in FIELDS if name in HEAD[8:12] or name.endswith(" date")]
 NO_DATE = (0, 0, 0)
 EMPTY = {name: NO_DATE if name in DATES else 0 for name in FIELDS}
-assert len(FIELDS) == 63 and len(DATES) == 8
+assert len(FIELDS) == 64 and len(DATES) == 8
 
 
 def record(case):
-    """The 63 numbers of a case in bytes."""
+    """The 64 numbers of a case in bytes."""
     numbers = []
     for name in FIELDS:
         value = case[name]
@@ -89,6 +92,11 @@ def record(case):
             value = year + 65536 * month + 16777216 * day
         numbers.append(value)
     return b"".join(number.to_bytes(8, "little") for number in numbers)
+
+
+def cut(case):
+    """The case that the record holds: the sex is one byte."""
+    return case | {"sex": case["sex"] % 256}
 
 
 # ---------------------------------------------------------------------------
@@ -126,7 +134,7 @@ def years_ahead(guarantee, day):
 
 
 def read_factors():
-    """By kind and by age or years ahead, the factors of pension, lump sum, survivor and deduction."""
+    """By table and by age or years ahead, the factors of pension, lump sum, survivor and deduction."""
     rows = {}
     path = pathlib.Path(__file__).resolve().parents[2] / "figures" / "factors.txt"
     for line in path.read_text().splitlines():
@@ -134,16 +142,137 @@ def read_factors():
             continue
         table, row, *figures = line.split()
         figures = [Fraction(figure) for figure in figures]
-        if table == "1995":
-            pension, lump, survivor, deduction = figures
-            rows[1, int(row)] = (pension, lump, survivor, deduction)
-        else:
+        if table == "2015":
             pension, survivor = figures
-            rows[2, int(row)] = (pension, Fraction(0), survivor, Fraction(0))
+            figures = [pension, Fraction(0), survivor, Fraction(0)]
+        pension, lump, survivor, deduction = figures
+        rows[table, int(row)] = (pension, lump, survivor, deduction)
     return rows
 
 
-FACTORS = read_factors()
+IN_FILE = read_factors()
+KINDS = {"1995": 1, "2015": 2}
+FACTORS = {(KINDS[table], row): figures for (table, row), figures in IN_FILE.items() if table in KINDS}
+
+
+def printed_table(columns, rows):
+    """A table of 001: by age, the factors by the letters of their columns."""
+    ages = {}
+    for row in rows.strip().splitlines():
+        years, pension, lump, survivor, deduction = row.split()
+        ages[int(years)] = dict(zip(columns.split(), map(Fraction, (pension, lump, survivor, deduction))))
+    return ages
+
+
+# The 2008 section: men, and women, whose deduction stands in column E below 60 and in column F from 60.
+MALE, FEMALE = 1, 2
+TV3 = printed_table("A B C E", """
+    18 6.50 0.33 0.76 4.65
+    19 6.64 0.34 0.80 4.78
+    20 6.78 0.35 0.82 4.91
+    21 6.93 0.36 0.84 5.04
+    22 7.07 0.36 0.86 5.18
+    23 7.22 0.37 0.88 5.32
+    24 7.38 0.38 0.90 5.46
+    25 7.53 0.39 0.92 5.61
+    26 7.69 0.40 0.94 5.77
+    27 7.85 0.41 0.96 5.92
+    28 8.02 0.42 0.99 6.08
+    29 8.19 0.43 1.01 6.25
+    30 8.36 0.44 1.03 6.42
+    31 8.54 0.45 1.05 6.60
+    32 8.72 0.46 1.08 6.78
+    33 8.91 0.47 1.10 6.96
+    34 9.10 0.49 1.12 7.15
+    35 9.29 0.50 1.15 7.35
+    36 9.49 0.51 1.17 7.55
+    37 9.70 0.52 1.19 7.76
+    38 9.90 0.53 1.21 7.97
+    39 10.12 0.55 1.24 8.19
+    40 10.34 0.56 1.26 8.42
+    41 10.56 0.57 1.28 8.65
+    42 10.79 0.59 1.30 8.90
+    43 11.02 0.60 1.32 9.14
+    44 11.26 0.62 1.34 9.40
+    45 11.51 0.63 1.37 9.66
+    46 11.76 0.64 1.39 9.93
+    47 12.02 0.66 1.41 10.21
+    48 12.29 0.68 1.43 10.49
+    49 12.56 0.69 1.45 10.79
+    50 12.84 0.71 1.46 11.09
+    51 13.13 0.73 1.48 11.41
+    52 13.42 0.74 1.50 11.73
+    53 13.73 0.76 1.52 12.07
+    54 14.04 0.78 1.53 12.42
+    55 14.37 0.80 1.54 12.78
+    56 14.70 0.82 1.56 13.16
+    57 15.04 0.84 1.57 13.54
+    58 15.40 0.86 1.58 13.95
+    59 15.77 0.88 1.58 14.37
+    60 16.15 0.90 1.59 14.80
+    61 16.55 0.92 1.59 15.26
+    62 16.96 0.94 1.59 15.73
+    63 17.39 0.97 1.59 16.23
+    64 17.83 0.99 1.59 16.74
+""")
+TV4 = printed_table("A B C E", """
+    18 6.50 0.33 0.76 4.65
+    19 6.64 0.34 0.80 4.78
+    20 6.78 0.35 0.82 4.91
+    21 6.93 0.36 0.84 5.04
+    22 7.07 0.36 0.86 5.18
+    23 7.22 0.37 0.88 5.32
+    24 7.38 0.38 0.90 5.46
+    25 7.53 0.39 0.92 5.61
+    26 7.69 0.40 0.94 5.77
+    27 7.85 0.41 0.96 5.92
+    28 8.02 0.42 0.99 6.08
+    29 8.19 0.43 1.01 6.25
+    30 8.36 0.44 1.03 6.42
+    31 8.54 0.45 1.05 6.60
+    32 8.72 0.46 1.08 6.78
+    33 8.91 0.47 1.10 6.96
+    34 9.10 0.49 1.12 7.15
+    35 9.29 0.50 1.15 7.35
+    36 9.49 0.51 1.17 7.55
+    37 9.70 0.52 1.19 7.76
+    38 9.90 0.53 1.21 7.97
+    39 10.12 0.55 1.24 8.19
+    40 10.34 0.56 1.26 8.42
+    41 10.56 0.57 1.28 8.65
+    42 10.79 0.59 1.30 8.90
+    43 11.02 0.60 1.32 9.14
+    44 11.26 0.62 1.34 9.40
+    45 11.51 0.63 1.37 9.66
+    46 11.76 0.64 1.39 9.93
+    47 12.02 0.66 1.41 10.21
+    48 12.29 0.68 1.43 10.49
+    49 12.56 0.69 1.45 10.79
+    50 12.84 0.71 1.46 11.09
+    51 13.13 0.73 1.48 11.41
+    52 13.42 0.74 1.50 11.73
+    53 13.73 0.76 1.52 12.07
+    54 14.04 0.78 1.53 12.42
+    55 14.37 0.80 1.54 12.78
+    56 14.70 0.82 1.56 13.16
+    57 15.04 0.84 1.57 13.54
+    58 15.40 0.86 1.58 13.95
+    59 15.77 0.88 1.58 14.37
+""") | printed_table("A B C F", """
+    60 16.15 0.90 1.59 14.80
+    61 16.55 0.92 1.59 15.26
+    62 16.96 0.94 1.59 15.73
+    63 17.39 0.97 1.59 16.23
+    64 17.83 0.99 1.59 16.74
+""")
+
+
+def factors_2008(sex, years):
+    """The factors of pension, lump sum, survivor and deduction, or None where the table has no row."""
+    row = {MALE: TV3, FEMALE: TV4}[sex].get(years)
+    if row is None:
+        return None
+    return row["A"], row["B"], row["C"], row["F" if sex == FEMALE and years >= 60 else "E"]
 
 
 def nearest(amount):
@@ -157,7 +286,7 @@ def lines_of(case):
 
 
 def kind_fault(case):
-    return (case["kind"], case["count"]) not in {(1, 1), (2, 1), (2, 2), (2, 3), (2, 4)}
+    return (case["kind"], case["count"]) not in {(1, 1), (2, 1), (2, 2), (2, 3), (2, 4), (3, 1)}
 
 
 def reserved_fault(case):
@@ -167,19 +296,23 @@ def reserved_fault(case):
         zero.add("state pension date")
     if not flags & 1:
         zero.add("transfer-in")
-    if kind == 1:
+    if kind != 2:
         zero |= {"own contributions", "line 1 date"}
+    if kind != 3:
+        zero.add("sex")
     for i in LINES:
         names = []
         if kind == 2:
-            names += ["lump sum", "modification", "Scheme Pays lump sum", "debit lump sum"]
+            names.append("modification")
+        if kind == 2 or (kind == 3 and not flags & 4):
+            names += ["lump sum", "Scheme Pays lump sum", "debit lump sum"]
         if i > 1:
             names += ["additional pension", "dependant's additional"]
         if i > count:
             names += OF_A_LINE
         zero |= {f"line {i} {name}" for name in names}
-    unused = flags not in (0, 1, 2, 3) or (kind == 1 and flags & 1)
-    return bool(unused) or any(case[name] != EMPTY[name] for name in zero)
+    unused = flags not in {1: (0, 2), 2: (0, 1, 2, 3), 3: (0, 2, 4, 6)}[kind]
+    return unused or any(case[name] != EMPTY[name] for name in zero)
 
 
 def range_fault(case):
@@ -194,6 +327,7 @@ def range_fault(case):
         case["case number"] == 0
         or case["status"] not in (1, 2, 3, 4)
         or case["receiving scheme"] not in (1, 2, 3)
+        or (case["kind"] == 3 and case["sex"] not in (MALE, FEMALE))
         or not 10_000 <= case["revaluation"] <= 100_000
         or any(case[name] > LIMIT for name in amounts)
         or any(real_day(case[name]) is None for name in dates)
@@ -204,7 +338,7 @@ def dates_fault(case):
     birth, leaving, guarantee = (real_day(case[name]) for name in ("birth", "leaving", "guarantee"))
     if leaving <= birth or guarantee < leaving:
         return True
-    if case["kind"] == 1:
+    if case["kind"] != 2:
         return False
     first, *others = [real_day(line["date"]) for line in lines_of(case)]
     return first < moved_on(birth, 65) or any(day >= first for day in others)
@@ -225,12 +359,14 @@ def age_of(case):
 
 
 def age_fault(case):
-    if case["kind"] == 1:
-        return age_of(case) >= 60
+    if case["kind"] != 2:
+        return age_of(case) >= {1: 60, 3: 65}[case["kind"]]
     return any(real_day(line["date"]) <= real_day(case["guarantee"]) for line in lines_of(case))
 
 
 def row_of(case, line):
+    if case["kind"] == 3:
+        return factors_2008(case["sex"], age_of(case))
     if case["kind"] == 1:
         row = age_of(case)
     else:
@@ -364,7 +500,7 @@ def group(name):
 def vector(label, expectation, base, changes=None, wrong=None):
     """A case with some fields changed. `wrong` is a payment or a refusal that a known mistake would give."""
     case = base | (changes or {})
-    found = valued(case)
+    found = valued(cut(case))
     if found != expectation:
         FAULTS.append(f"{_group}: {label}: stated {text(expectation)}, model {text(found)}")
     if set(case) != set(FIELDS):
@@ -408,6 +544,22 @@ AHEAD_25 = EMPTY | {
     "revaluation": 10_000,
     "line 1 date": (2045, 5, 10),
 }
+
+# Kind 3, a man of 50 who left at 40, no revaluation: factors 12.84, 0.71, 1.46 and 11.09.
+AGED_50 = EMPTY | {
+    "kind": 3,
+    "case number": 50,
+    "status": 1,
+    "receiving scheme": 1,
+    "count": 1,
+    "months": 120,
+    "sex": MALE,
+    "birth": (1970, 5, 10),
+    "leaving": (2010, 5, 10),
+    "guarantee": (2020, 5, 10),
+    "revaluation": 10_000,
+}
+OPTANT_50 = AGED_50 | {"flags": 4}
 
 # With four lines, 25, 24, 23 and 22 years ahead: pension factors 9.27, 9.55, 9.84, 10.14; survivor 1.33, 1.35, 1.36, 1.38.
 FOUR_LINES = AHEAD_25 | {
@@ -511,6 +663,40 @@ D_003 = EMPTY | {
     "line 3 survivor": 1_856_25,
 }
 
+# 001, Examples B to D of the 2008 section. B is 34 by its dates; the note takes him to be 35, as if born a year earlier.
+B_001 = AGED_50 | {
+    "case number": 11,
+    "birth": (1984, 11, 1),
+    "leaving": (2012, 4, 1),
+    "guarantee": (2019, 10, 1),
+    "revaluation": 10_520,
+    "line 1 pension": 2_500_00,
+    "line 1 survivor": 938_00,
+}
+
+C_001 = AGED_50 | {
+    "case number": 12,
+    "sex": FEMALE,
+    "birth": (1957, 4, 1),
+    "leaving": (2015, 10, 1),
+    "guarantee": (2020, 10, 1),
+    "revaluation": 10_520,
+    "line 1 pension": 2_500_00,
+    "line 1 survivor": 938_00,
+}
+
+D_001 = OPTANT_50 | {
+    "case number": 3,
+    "birth": (1969, 5, 1),
+    "leaving": (2012, 4, 1),
+    "guarantee": (2020, 1, 1),
+    "revaluation": 11_700,
+    "line 1 pension": 10_875_00,
+    "line 1 survivor": 5_063_00,
+    "line 1 lump sum": 31_500_00,
+}
+D_001_PAID = {"pension": "163,372.95", "lump": "26,167.05", "survivor": "8,648.6166"}
+
 B_PAID = {"pension": "24,704.5500", "survivor": "1,196.2552"}
 D_PAID = {"pension": "100,090.00", "survivor": "4,755.3750"}
 
@@ -519,9 +705,12 @@ D_PAID = {"pension": "100,090.00", "survivor": "4,755.3750"}
 P54 = AGED_54 | {"line 1 pension": 100_00}
 P25 = AHEAD_25 | {"line 1 pension": 100_00}
 P4 = FOUR_LINES | {f"line {i} pension": 100_00 for i in LINES}
+P50 = AGED_50 | {"line 1 pension": 100_00}
+OPTANT_P50 = OPTANT_50 | {"line 1 pension": 100_00}
 P54_PAID = paid("1,805.00", pension="1,805.00")
 P25_PAID = paid("927.00", pension="927.00")
 P4_PAID = paid("3,880.00", pension="3,880.00")
+P50_PAID = paid("1,284.00", pension="1,284.00")
 
 
 def only(pounds):
@@ -684,7 +873,7 @@ def every_row():
 
 def kind():
     group("3 kind")
-    for number in (0, 3, 4, 257, 258, 65535):
+    for number in (0, 4, 5, 257, 258, 65535):
         vector(f"kind {number}", 3, P25, {"kind": number})
     vector("kind 1, count 1", P54_PAID, P54)
     for count in (0, 2, 3, 4, 5, 255):
@@ -1206,7 +1395,7 @@ def voluntary_fund():
 
 
 # One change for each refusal, in the order in which they are tested; any of them may be made together but 11 and 12 of
-# kind 1, which are both of age.
+# kinds 1 and 3, which are both of age.
 KIND_1_FAULTS = {
     3: {"count": 2},
     4: {"own contributions": 1},
@@ -1237,27 +1426,56 @@ KIND_2_FAULTS = {
     13: {"line 3 Scheme Pays": 100_01},
     16: {"line 3 debit pension": 500_00},
 }
+KIND_3_FAULTS = {
+    3: {"count": 2},
+    4: {"line 1 lump sum": 1},
+    5: {"sex": 0},
+    6: {"leaving": (2020, 5, 11)},
+    7: {"status": 2},
+    8: {"receiving scheme": 2},
+    9: {"months": 2},
+    11: {"birth": (1955, 5, 10)},
+    10: {"flags": 2, "state pension date": (2016, 4, 5)},
+    12: {"birth": (2002, 5, 11)},
+    13: {"line 1 Scheme Pays": 100_01},
+    14: {"line 1 modification": 200_00},
+    16: {"line 1 debit pension": 100_01},
+}
+OPTANT_FAULTS = KIND_3_FAULTS | {
+    3: {"kind": 4},
+    4: {"line 1 date": (2035, 5, 10)},
+    5: {"sex": 3},
+    10: {"flags": 6, "state pension date": (2016, 4, 5)},
+    13: {"line 1 Scheme Pays lump sum": 1},
+    16: {"line 1 debit lump sum": 1_900_00},
+}
 
 
 def order_of_tests():
     group("order of tests")
-    sets = (("kind 1", P54 | {"leaving": (2021, 6, 1)}, KIND_1_FAULTS), ("kind 2", P4, KIND_2_FAULTS))
+    sets = (
+        ("kind 1", P54 | {"leaving": (2021, 6, 1)}, KIND_1_FAULTS),
+        ("kind 2", P4, KIND_2_FAULTS),
+        ("kind 3", P50 | {"leaving": (2020, 5, 10)}, KIND_3_FAULTS),
+        ("kind 3, Choice Optant", OPTANT_P50 | {"leaving": (2020, 5, 10)}, OPTANT_FAULTS),
+    )
     for label, base, faults in sets:
         numbers = list(faults)
         for at, first in enumerate(numbers):
             vector(f"{label}, {first} alone", first, base, faults[first])
             for second in numbers[at + 1:]:
-                if (label, first, second) != ("kind 1", 11, 12):
+                if label == "kind 2" or (first, second) != (11, 12):
                     vector(f"{label}, {first} before {second}", first, base, faults[first] | faults[second])
         # After the last but one only one follows, and that pair stands above.
         for at, first in enumerate(numbers[:-2]):
             several = {}
             for number in numbers[at:]:
-                if (label, number, 11 in numbers[at:]) != ("kind 1", 12, True):
+                if label == "kind 2" or number != 12 or 11 not in numbers[at:]:
                     several |= faults[number]
             vector(f"{label}, {first} and all that follow", first, base, several)
-    # Age 60 has no row either; neither have lines on the guarantee date.
+    # Age 60 has no row in kind 1 either, nor age 65 in kind 3; neither have lines on the guarantee date.
     vector("kind 1, age 60 has no row", 11, P54, KIND_1_FAULTS[11])
+    vector("kind 3, age 65 has no row", 11, P50, KIND_3_FAULTS[11])
     vector("kind 2, no line has a row", 11, P25, {"birth": (1950, 1, 1), "line 1 date": (2020, 5, 10)})
     # An absent row counts with Scheme Pays on the other lines, and the other way about.
     vector("kind 2, no row on line 1 and Scheme Pays on line 4", 12, P4, KIND_2_FAULTS[12] | {"line 4 Scheme Pays": 100_01})
@@ -1753,6 +1971,763 @@ def divorce_form():
     vector("a debit whose product passes 64 bits", 5, P54, {"line 1 debit pension": 2**64 // 1805 + 1})
 
 
+def kind_3_examples():
+    """The note prints the sums to the penny: £25,567.50, £47,304.68 and £198,188.62."""
+    group("examples of the 2008 section")
+    # 2,630.00 at 9.29 and 986.78 at 1.15: 25,567.4970
+    vector("001, B, born 1 November 1983: 35", paid("25,567.50", pension="24,432.70", survivor="1,134.7970"), B_001, {
+        "birth": (1983, 11, 1),
+    }, wrong="25,567.49")
+    # 2,630.00 at 9.10 and 986.78 at 1.12: 25,038.1936
+    vector("001, B, born 1 November 1984: 34", paid("25,038.19", pension="23,933.00", survivor="1,105.1936"), B_001,
+           wrong="25,567.50")
+    # 2,630.00 at 17.39 and 986.78 at 1.59: 47,304.6802
+    vector("001, C", paid("47,304.68", pension="45,735.70", survivor="1,568.9802"), C_001, wrong="47,305.00")
+    # 12,723.75 at 12.84, 36,855.00 at 0.71 and 5,923.71 at 1.46: 198,188.6166
+    vector("001, D", paid("198,188.62", **D_001_PAID), D_001, wrong="198,189.00")
+    vector("001, D, without the flag", 4, D_001, {"flags": 0})
+    vector("001, D, a woman", paid("198,188.62", **D_001_PAID), D_001, {"sex": FEMALE})
+    # less £20.00 at 7.35, 7.15, 16.23 and 11.09
+    modification = {"line 1 modification": 20_00}
+    vector("001, B, 35, and a modification", paid(
+        "25,420.50", pension="24,432.70", survivor="1,134.7970", deduct="147.00",
+    ), B_001, modification | {"birth": (1983, 11, 1)})
+    vector("001, B, 34, and a modification", paid(
+        "24,895.19", pension="23,933.00", survivor="1,105.1936", deduct="143.00",
+    ), B_001, modification)
+    vector("001, C, and a modification", paid(
+        "46,980.08", pension="45,735.70", survivor="1,568.9802", deduct="324.60",
+    ), C_001, modification)
+    vector("001, D, and a modification", paid("197,966.82", deduct="221.80", **D_001_PAID), D_001, modification)
+
+
+def kind_3_every_age():
+    """£100.00 of each benefit and of modification at each age: a man on his birthday, a woman on the day before the next."""
+    group("every age of the 2008 section")
+    for sex, label, table in ((MALE, "a man", TV3), (FEMALE, "a woman", TV4)):
+        for years in range(17, 67):
+            expectation = 12 if years == 17 else 11
+            if years in table:
+                row = table[years]
+                deduction = row["F"] if sex == FEMALE and years >= 60 else row["E"]
+                figures = {"pension": row["A"], "lump": row["B"], "survivor": row["C"], "deduct": deduction}
+                stated = {name: str(int(factor * 100)) for name, factor in figures.items()}
+                total = 100 * (row["A"] + row["B"] + row["C"] - deduction)
+                expectation = paid(str(int(total)), **stated)
+            vector(f"{label} of {years}", expectation, OPTANT_P50, {
+                "sex": sex, "birth": (1967, 6, 1), "leaving": (1984, 4, 1),
+                "guarantee": (1967 + years, 6, 1) if sex == MALE else (1968 + years, 5, 31),
+                "line 1 survivor": 100_00, "line 1 lump sum": 100_00, "line 1 modification": 100_00,
+            })
+
+
+def kind_3_rows():
+    """Some rows stated by hand, as 001 prints them, in pounds for £100.00 of each."""
+    group("rows of the 2008 section")
+    for years, pay, pension, lump, survivor, deduct in (
+        (18, "294", "650", "33", "76", "465"),
+        (19, "300", "664", "34", "80", "478"),
+        (21, "309", "693", "36", "84", "504"),
+        (22, "311", "707", "36", "86", "518"),
+        (40, "374", "1,034", "56", "126", "842"),
+        (50, "392", "1,284", "71", "146", "1,109"),
+        (54, "393", "1,404", "78", "153", "1,242"),
+        (55, "393", "1,437", "80", "154", "1,278"),
+        (59, "386", "1,577", "88", "158", "1,437"),
+        (60, "384", "1,615", "90", "159", "1,480"),
+        (63, "372", "1,739", "97", "159", "1,623"),
+        (64, "367", "1,783", "99", "159", "1,674"),
+    ):
+        for sex, label in ((MALE, "a man"), (FEMALE, "a woman")):
+            at = {"sex": sex, "leaving": (1986, 5, 10), "guarantee": (1970 + years, 5, 10)}
+            whole = {"line 1 survivor": 100_00, "line 1 modification": 100_00}
+            vector(f"{label} of {years}, Choice Optant", paid(
+                pay, pension=pension, lump=lump, survivor=survivor, deduct=deduct,
+            ), OPTANT_P50, at | whole | {"line 1 lump sum": 100_00})
+            without = str(int(pay) - int(lump))
+            vector(f"{label} of {years}", paid(
+                without, pension=pension, survivor=survivor, deduct=deduct,
+            ), P50, at | whole)
+
+
+def kind_3_birthdays():
+    group("birthdays in the 2008 section")
+    young = P50 | {"leaving": (1987, 1, 1)}
+    old = P50 | {"birth": (1955, 5, 10)}
+    for sex, label in ((MALE, "a man"), (FEMALE, "a woman")):
+        of = {"sex": sex}
+        vector(f"{label}, the day before the 18th", 12, young, of | {"guarantee": (1988, 5, 9)})
+        vector(f"{label}, on the 18th", only("650.00"), young, of | {"guarantee": (1988, 5, 10)})
+        vector(f"{label}, the day after the 18th", only("650.00"), young, of | {"guarantee": (1988, 5, 11)})
+        vector(f"{label}, the day before the 19th", only("650.00"), young, of | {"guarantee": (1989, 5, 9)})
+        vector(f"{label}, on the 19th", only("664.00"), young, of | {"guarantee": (1989, 5, 10)})
+        vector(f"{label}, the day before the 65th", only("1,783.00"), old, of | {"guarantee": (2020, 5, 9)})
+        vector(f"{label}, on the 65th", 11, old, of | {"guarantee": (2020, 5, 10)})
+        vector(f"{label}, the day after the 65th", 11, old, of | {"guarantee": (2020, 5, 11)})
+        vector(f"{label}, on the 64th", only("1,783.00"), old, of | {"guarantee": (2019, 5, 10)})
+        vector(f"{label}, a day old", 12, P50, of | {"leaving": (1970, 5, 11), "guarantee": (1970, 5, 11)})
+        vector(f"{label}, on the 66th", 11, old, of | {"guarantee": (2021, 5, 10)})
+        vector(f"{label} of 299", 11, P50, of | {"birth": (1900, 1, 1), "guarantee": (2199, 12, 31)})
+        vector(f"{label}, left on the 65th", 11, old, of | {"leaving": (2020, 5, 10), "guarantee": (2020, 5, 10)})
+        # £10.00 at 14.37 and 14.80
+        turns_60 = P50 | of | {"birth": (1960, 5, 10), "line 1 modification": 10_00}
+        at_59 = paid("1,433.30", pension="1,577.00", deduct="143.70")
+        at_60 = paid("1,467.00", pension="1,615.00", deduct="148.00")
+        vector(f"{label}, the day before the 60th", at_59, turns_60, {"guarantee": (2020, 5, 9)})
+        vector(f"{label}, on the 60th", at_60, turns_60, {"guarantee": (2020, 5, 10)})
+        vector(f"{label}, the day after the 60th", at_60, turns_60, {"guarantee": (2020, 5, 11)})
+        vector(f"{label}, left at 59, 60 at the guarantee date", at_60, turns_60, {"leaving": (2020, 5, 9)})
+        vector(f"{label}, the day before the 61st", at_60, turns_60, {"guarantee": (2021, 5, 9)})
+        # £10.00 at 15.26
+        at_61 = paid("1,502.40", pension="1,655.00", deduct="152.60")
+        vector(f"{label}, on the 61st", at_61, turns_60, {"guarantee": (2021, 5, 10)})
+        # 10.34 at 40, when he or she left
+        vector(f"{label}, left at 40", P50_PAID, P50, of, wrong="1,034.00")
+        vector(f"{label}, left at 17", P50_PAID, P50, of | {"leaving": (1988, 5, 9)})
+        vector(f"{label}, left at 49", P50_PAID, P50, of | {"leaving": (2020, 5, 9)}, wrong="1,256.00")
+    # 18.05 in kind 1
+    vector("a kind 1 case as kind 3, 54", only("1,404.00"), P54, {"kind": 3, "sex": MALE}, wrong="1,805.00")
+    vector("a kind 3 case as kind 1, 50", only("1,647.00"), P50, {"kind": 1, "sex": 0}, wrong="1,284.00")
+
+
+def kind_3_leap_days():
+    group("29 February in the 2008 section")
+    born = P50 | {"birth": (1968, 2, 29), "leaving": (1984, 5, 10)}
+    vector("on 27 February 1986: 17", 12, born, {"guarantee": (1986, 2, 27)})
+    vector("on 28 February 1986: 18", only("650.00"), born, {"guarantee": (1986, 2, 28)})
+    vector("on 1 March 1986: 18", only("650.00"), born, {"guarantee": (1986, 3, 1)})
+    vector("on 27 February 2021: 52", only("1,342.00"), born, {"guarantee": (2021, 2, 27)})
+    vector("on 28 February 2021: 53", only("1,373.00"), born, {"guarantee": (2021, 2, 28)})
+    vector("on 28 February 2024: 55", only("1,437.00"), born, {"guarantee": (2024, 2, 28)})
+    vector("on 29 February 2024: 56", only("1,470.00"), born, {"guarantee": (2024, 2, 29)})
+    vector("on 27 February 2033: 64", only("1,783.00"), born, {"guarantee": (2033, 2, 27)})
+    vector("on 28 February 2033: 65", 11, born, {"guarantee": (2033, 2, 28)})
+    vector("on 1 March 2033: 65", 11, born, {"guarantee": (2033, 3, 1)})
+    # £10.00 at 14.37 and 14.80
+    at_59 = paid("1,433.30", pension="1,577.00", deduct="143.70")
+    at_60 = paid("1,467.00", pension="1,615.00", deduct="148.00")
+    woman = born | {"sex": FEMALE, "line 1 modification": 10_00}
+    vector("a woman, on 28 February 2028: 59", at_59, woman, {"guarantee": (2028, 2, 28)})
+    vector("a woman, on 29 February 2028: 60", at_60, woman, {"guarantee": (2028, 2, 29)})
+    century = woman | {"birth": (2040, 2, 29), "leaving": (2090, 1, 1)}
+    vector("a woman, on 27 February 2100: 59", at_59, century, {"guarantee": (2100, 2, 27)})
+    vector("a woman, on 28 February 2100: 60", at_60, century, {"guarantee": (2100, 2, 28)})
+    vector("a woman, on 28 February 2105: 65", 11, century, {"guarantee": (2105, 2, 28)})
+
+
+def kind_3_sex():
+    group("4 and 5, sex")
+    others = (
+        ("kind 1", P54, P54_PAID), ("kind 2", P25, P25_PAID), ("kind 2, four lines", P4, P4_PAID), ("001, A", A_001, None),
+        ("003, B", B_003, None),
+    )
+    for label, base, accepted in others:
+        if accepted is not None:
+            vector(f"{label}, sex 0", accepted, base)
+        for code in (1, 2, 3, 128, 255):
+            vector(f"{label}, sex {code}", 4, base, {"sex": code})
+    for label, base in (("kind 3", P50), ("kind 3, Choice Optant", OPTANT_P50)):
+        for code in (1, 2):
+            vector(f"{label}, sex {code}", P50_PAID, base, {"sex": code})
+        for code in (0, 3, 4, 129, 130, 255):
+            vector(f"{label}, sex {code}", 5, base, {"sex": code})
+    # The record's number is cut to a byte.
+    for code in (257, 258, 2**32 + 1):
+        vector(f"kind 3, sex {code}", P50_PAID, P50, {"sex": code})
+    for code in (256, 259, 2**32):
+        vector(f"kind 3, sex {code}", 5, P50, {"sex": code})
+    vector("kind 1, sex 256", P54_PAID, P54, {"sex": 256})
+    vector("kind 2, sex 257", 4, P25, {"sex": 257})
+
+
+def kind_3_kind():
+    group("3 kind, kind 3")
+    for number in (0, 4, 5, 255, 256, 256 + 3, 512 + 3, 768, 2**15 + 3, 65535):
+        vector(f"kind {number}", 3, P50, {"kind": number})
+        vector(f"kind {number}, Choice Optant", 3, OPTANT_P50, {"kind": number})
+    vector("kind 3, count 1", P50_PAID, P50)
+    vector("kind 3, count 1, Choice Optant", P50_PAID, OPTANT_P50)
+    for count in (0, 2, 3, 4, 5, 129, 255):
+        vector(f"kind 3, count {count}", 3, P50, {"count": count})
+        vector(f"kind 3, count {count}, Choice Optant", 3, OPTANT_P50, {"count": count})
+    vector("a kind 1 case as kind 3", 5, P54, {"kind": 3})
+    vector("a kind 2 case as kind 3", 4, P25, {"kind": 3})
+    vector("a kind 2 case as kind 3, a man", 4, P25, {"kind": 3, "sex": MALE})
+    vector("a kind 2 case of four lines as kind 3, a man", 3, P4, {"kind": 3, "sex": MALE})
+    vector("a kind 3 case as kind 2", 4, P50, {"kind": 2})
+    vector("a kind 3 case as kind 2, no sex", 5, P50, {"kind": 2, "sex": 0})
+    vector("a kind 3 case as kind 1", 4, P50, {"kind": 1})
+    vector("a Choice Optant's case as kind 1, no sex", 4, OPTANT_P50, {"kind": 1, "sex": 0})
+    vector("001, A as kind 3, a woman", 4, A_001, {"kind": 3, "sex": FEMALE})
+    # Row 52: 6,840.00 at 13.42, 17,100.00 at 0.74, 3,277.50 at 1.50, less 20.00 at 11.73
+    vector("001, A as kind 3, a woman and a Choice Optant", paid(
+        "109,128.45", pension="91,792.80", lump="12,654.00", survivor="4,916.25", deduct="234.60",
+    ), A_001, {"kind": 3, "sex": FEMALE, "flags": 4}, wrong="136,868.93")
+
+
+def kind_3_flags():
+    group("4 reserved, flags in kind 3")
+    dated = {"state pension date": (2037, 5, 10)}
+    for flags in (0, 2, 4, 6):
+        gmp = dated if flags & 2 else {}
+        vector(f"flags {flags}", P50_PAID, P50, gmp | {"flags": flags})
+        vector(f"flags {flags} and transferred in", 4, P50, gmp | {"flags": flags + 1})
+        vector(f"flags {flags}, transferred in, and transfer-in 1p", 4, P50, gmp | {"flags": flags + 1, "transfer-in": 1})
+        for bit in (8, 16, 32, 64, 128):
+            vector(f"flags {flags} and {bit}", 4, P50, gmp | {"flags": flags + bit})
+        if not flags & 2:
+            vector(f"flags {flags}, state pension date", 4, P50, dated | {"flags": flags})
+            for date in ((1, 0, 0), (0, 1, 0), (0, 0, 1)):
+                vector(f"flags {flags}, a part of the state pension date, {date}", 4, P50, {
+                    "flags": flags, "state pension date": date,
+                })
+    vector("flags 255", 4, P50, dated | {"flags": 255})
+    for label, base in (("kind 1", P54), ("kind 2", P25), ("kind 2, four lines", P4)):
+        vector(f"{label}, flag 4 with GMP", 4, base, dated | {"flags": 6})
+        vector(f"{label}, flag 4 and a man", 4, base, {"flags": 4, "sex": MALE})
+    vector("kind 2, flag 4 with both", 4, P25, dated | {"flags": 7})
+
+
+OF_CHOICE_OPTANTS = ("lump sum", "Scheme Pays lump sum", "debit lump sum")
+
+
+def kind_3_reserved():
+    group("4 reserved, amounts and dates in kind 3")
+    for label, base in (("kind 3", P50), ("kind 3, Choice Optant", OPTANT_P50)):
+        for pence in (1, 100_00, LIMIT, LIMIT + 1, 2**64 - 1):
+            vector(f"{label}, own contributions {pence}p", 4, base, {"own contributions": pence})
+            vector(f"{label}, transfer-in {pence}p", 4, base, {"transfer-in": pence})
+        vector(f"{label}, the line's date", 4, base, {"line 1 date": (2035, 5, 10)})
+        vector(f"{label}, the line's date, no real day", 4, base, {"line 1 date": (2019, 2, 29)})
+        for date in ((1, 0, 0), (0, 1, 0), (0, 0, 1)):
+            vector(f"{label}, a part of the line's date, {date}", 4, base, {"line 1 date": date})
+        for i in (2, 3, 4):
+            for name in AMOUNTS + DIVORCE_DEBITS:
+                vector(f"{label}, line {i} {name} 1p", 4, base, {f"line {i} {name}": 1})
+            vector(f"{label}, line {i} date", 4, base, {f"line {i} date": (2034, 5, 10)})
+    for name in OF_CHOICE_OPTANTS:
+        for pence in (1, 100_00, LIMIT, LIMIT + 1, 2**64 - 1):
+            vector(f"kind 3, {name} {pence}p", 4, P50, {f"line 1 {name}": pence})
+        vector(f"kind 3, GMP, {name} 1p", 4, P50, {
+            f"line 1 {name}": 1, "flags": 2, "state pension date": (2037, 5, 10),
+        })
+        vector(f"kind 3, a woman, {name} 1p", 4, P50, {f"line 1 {name}": 1, "sex": FEMALE})
+    # 0.71 pence
+    vector("Choice Optant, lump sum 1p", paid("1,284.01", pension="1,284.00", lump="0.0071"), OPTANT_P50, {"line 1 lump sum": 1})
+    vector("Choice Optant, lump sum and Scheme Pays lump sum 1p", P50_PAID, OPTANT_P50, {
+        "line 1 lump sum": 1, "line 1 Scheme Pays lump sum": 1,
+    })
+    vector("Choice Optant, debit lump sum 1p", paid("1,283.99", pension="1,284.00"), OPTANT_P50, {"line 1 debit lump sum": 1})
+    vector("Choice Optant with GMP, lump sum 100p", paid("1,284.71", pension="1,284.00", lump="0.71"), OPTANT_P50, {
+        "line 1 lump sum": 100, "flags": 6, "state pension date": (2037, 5, 10),
+    })
+    # 12.84 pence of pension, 1.46 of survivor's pension, 11.09 of modification
+    for name, expectation in (
+        ("additional pension", paid("1,284.13", pension="1,284.1284")),
+        ("survivor", paid("1,284.01", pension="1,284.00", survivor="0.0146")),
+        ("dependant's additional", paid("1,284.01", pension="1,284.00", survivor="0.0146")),
+        ("modification", paid("1,283.89", pension="1,284.00", deduct="0.1109")),
+        ("Scheme Pays", paid("1,283.87", pension="1,283.8716")),
+        ("debit pension", paid("1,283.87", pension="1,284.00")),
+        ("debit survivor", paid("1,283.99", pension="1,284.00")),
+    ):
+        vector(f"kind 3, {name} 1p", expectation, P50, {f"line 1 {name}": 1})
+        vector(f"Choice Optant, {name} 1p", expectation, OPTANT_P50, {f"line 1 {name}": 1})
+
+
+def kind_3_range():
+    group("5 range, kind 3")
+    vector("case number 0", 5, P50, {"case number": 0})
+    vector("case number 4294967295", P50_PAID, P50, {"case number": 4294967295})
+    for status in (0, 5, 255):
+        vector(f"status {status}", 5, P50, {"status": status})
+    for receiver in (0, 4, 255):
+        vector(f"receiving scheme {receiver}", 5, P50, {"receiving scheme": receiver})
+    for revaluation in (0, 9_999, 100_001, 2**32 - 1):
+        vector(f"revaluation {revaluation}", 5, P50, {"revaluation": revaluation})
+    vector("revaluation 100,000", only("12,840.00"), P50, {"revaluation": 100_000})
+    for name in ("birth", "leaving", "guarantee"):
+        vector(f"{name} zero", 5, P50, {name: NO_DATE})
+        vector(f"{name} no real day", 5, P50, {name: (2019, 2, 29)})
+        vector(f"{name} 1 January 2200", 5, P50, {name: (2200, 1, 1)})
+    gmp = P50 | {"flags": 2}
+    vector("state pension date zero with GMP", 5, gmp)
+    vector("state pension date no real day with GMP", 5, gmp, {"state pension date": (2019, 2, 29)})
+    early = P50 | {"leaving": (1950, 1, 1), "guarantee": (1955, 1, 1)}
+    vector("birth 31 December 1899", 5, early, {"birth": (1899, 12, 31)})
+    vector("birth 1 January 1900, age 55", only("1,437.00"), early, {"birth": (1900, 1, 1)})
+    late = P50 | {"birth": (2149, 12, 31), "leaving": (2160, 1, 1)}
+    vector("guarantee 31 December 2199", P50_PAID, late, {"guarantee": (2199, 12, 31)})
+
+
+def kind_3_amounts():
+    """Each amount at the limit and a penny above it; what each is paid at the limit, in pounds."""
+    group("5 range, amounts in kind 3")
+    pension, survivor, lump = "128,400,000.00", "14,600,000.00", "7,100,000.00"
+    for member, base in (("", AGED_50), (", Choice Optant", OPTANT_50)):
+        for name, expectation, changes in (
+            ("AVC", paid("10,000,000.00", avc="10,000,000.00"), {}),
+            ("line 1 pension", only(pension), {}),
+            ("line 1 additional pension", only(pension), {}),
+            ("line 1 survivor", paid(survivor, survivor=survivor), {}),
+            ("line 1 dependant's additional", paid(survivor, survivor=survivor), {}),
+            ("line 1 lump sum", paid(lump, lump=lump), {}),
+            ("line 1 modification", paid("17,500,000.00", pension=pension, deduct="110,900,000.00"), {"line 1 pension": LIMIT}),
+            ("line 1 Scheme Pays", paid("0"), {"line 1 pension": LIMIT}),
+            ("line 1 Scheme Pays lump sum", paid("0"), {"line 1 lump sum": LIMIT}),
+            ("line 1 debit pension", paid("0", pension=pension), {"line 1 pension": LIMIT}),
+            ("line 1 debit survivor", paid("0", survivor=survivor), {"line 1 survivor": LIMIT}),
+            ("line 1 debit lump sum", paid("0", lump=lump), {"line 1 lump sum": LIMIT}),
+        ):
+            if "lump sum" in name and base == AGED_50:
+                continue  # those are refused 4
+            vector(f"{name} at the limit{member}", expectation, base | changes, {name: LIMIT})
+            vector(f"{name} above the limit{member}", 5, base | changes, {name: LIMIT + 1})
+            vector(f"{name} 2 to the power 32{member}", 5, base | changes, {name: 2**32})
+            vector(f"{name} 2 to the power 64 less 1{member}", 5, base | changes, {name: 2**64 - 1})
+
+
+def kind_3_dates():
+    group("6 dates, kind 3")
+    for sex, label in ((MALE, "a man"), (FEMALE, "a woman")):
+        base = P50 | {"sex": sex}
+        vector(f"{label}, leaving on the day of birth", 6, base, {"leaving": (1970, 5, 10)})
+        vector(f"{label}, leaving the day after birth", P50_PAID, base, {"leaving": (1970, 5, 11)})
+        vector(f"{label}, leaving the day before birth", 6, base, {"leaving": (1970, 5, 9)})
+        vector(f"{label}, leaving on the guarantee date", P50_PAID, base, {"leaving": (2020, 5, 10)})
+        vector(f"{label}, leaving the day after the guarantee date", 6, base, {"leaving": (2020, 5, 11)})
+        vector(f"{label}, guarantee date before birth", 6, base, {"guarantee": (1970, 5, 9)})
+
+
+def kind_3_entitlement():
+    group("7 status, 8 receiver, 9 service, 10 refer, kind 3")
+    for label, base in (("kind 3", P50), ("kind 3, Choice Optant", OPTANT_P50)):
+        for status in (2, 3, 4):
+            vector(f"{label}, status {status}", 7, base, {"status": status})
+        for receiver in (2, 3):
+            vector(f"{label}, receiving scheme {receiver}", 8, base, {"receiving scheme": receiver})
+        for months in (0, 1, 2):
+            vector(f"{label}, {months} months", 9, base, {"months": months})
+        for months in (3, 4, 65535):
+            vector(f"{label}, {months} months", P50_PAID, base, {"months": months})
+        gmp = base | {"flags": base["flags"] + 2}
+        for date in ((2016, 4, 5), (2016, 3, 31), (2015, 12, 31), (1900, 1, 1)):
+            vector(f"{label}, state pension date {date}", 10, gmp, {"state pension date": date})
+        for date in ((2016, 4, 6), (2016, 5, 1), (2017, 1, 1), (2199, 12, 31)):
+            vector(f"{label}, state pension date {date}", P50_PAID, gmp, {"state pension date": date})
+
+
+def kind_3_too_old_or_refer():
+    group("11 age before 10 refer, kind 3")
+    meets_10 = P50 | {"birth": (1955, 5, 10), "flags": 2, "state pension date": (2016, 4, 5)}
+    misses_10 = meets_10 | {"state pension date": (2016, 4, 6)}
+    vector("age 64", 10, meets_10, {"guarantee": (2020, 5, 9)})
+    vector("age 65", 11, meets_10)
+    vector("age 66", 11, meets_10, {"guarantee": (2021, 5, 10)})
+    vector("age 60", 10, meets_10, {"guarantee": (2015, 5, 10)})
+    vector("state pension date 6 April 2016, age 64", only("1,783.00"), misses_10, {"guarantee": (2020, 5, 9)})
+    vector("state pension date 6 April 2016, age 65", 11, misses_10)
+    vector("Choice Optant, age 64", 10, meets_10, {"flags": 6, "guarantee": (2020, 5, 9)})
+    vector("Choice Optant, age 65", 11, meets_10, {"flags": 6})
+    for number in (7, 8, 9):
+        vector(f"{number} with both", number, meets_10, KIND_3_FAULTS[number])
+    vector("age 17 and 10", 10, meets_10, {"birth": (2002, 5, 11)})
+    vector("age 17", 12, misses_10, {"birth": (2002, 5, 11)})
+
+
+def kind_3_scheme_pays():
+    group("13 debit, kind 3")
+    pension, lump = AGED_50 | {"line 1 pension": 100}, OPTANT_50 | {"line 1 lump sum": 100}
+    # 12.84 and 0.71 pence
+    vector("pension 100p, Scheme Pays 99p", paid("0.13", pension="0.1284"), pension, {"line 1 Scheme Pays": 99})
+    vector("pension 100p, Scheme Pays 100p", paid("0"), pension, {"line 1 Scheme Pays": 100})
+    vector("pension 100p, Scheme Pays 101p", 13, pension, {"line 1 Scheme Pays": 101})
+    both = AGED_50 | {"line 1 pension": 60, "line 1 additional pension": 40}
+    vector("pension 60p and additional 40p, Scheme Pays 100p", paid("0"), both, {"line 1 Scheme Pays": 100})
+    vector("pension 60p and additional 40p, Scheme Pays 101p", 13, both, {"line 1 Scheme Pays": 101})
+    vector("lump sum 100p, Scheme Pays lump sum 99p", paid("0.01", lump="0.0071"), lump, {"line 1 Scheme Pays lump sum": 99})
+    vector("lump sum 100p, Scheme Pays lump sum 100p", paid("0"), lump, {"line 1 Scheme Pays lump sum": 100})
+    vector("lump sum 100p, Scheme Pays lump sum 101p", 13, lump, {"line 1 Scheme Pays lump sum": 101})
+    at = OPTANT_50 | {"revaluation": 10_660}
+    for name, taken in (("pension", "Scheme Pays"), ("lump sum", "Scheme Pays lump sum")):
+        vector(f"{name} 84,375p at 1.0660, {taken} 89,944p", paid("0"), at, {
+            f"line 1 {name}": 84_375, f"line 1 {taken}": 89_944,
+        })
+        vector(f"{name} 84,375p at 1.0660, {taken} 89,945p", 13, at, {
+            f"line 1 {name}": 84_375, f"line 1 {taken}": 89_945,
+        })
+    vector("Scheme Pays on a lump sum", 13, OPTANT_50, {"line 1 lump sum": 100_00, "line 1 Scheme Pays": 1})
+    vector("Scheme Pays lump sum on a pension", 13, OPTANT_P50, {"line 1 Scheme Pays lump sum": 1})
+    vector("Scheme Pays on a survivor's pension", 13, AGED_50, {"line 1 survivor": 100_00, "line 1 Scheme Pays": 1})
+    vector("survivor's part is not reduced", paid("146.00", survivor="146.00"), P50, {
+        "line 1 Scheme Pays": 100_00, "line 1 survivor": 100_00,
+    })
+    doubled = {"revaluation": 20_000}
+    # (200 - 50) at 12.84; (200 - 60) at 0.71; 200 at 12.84 less 10 at 11.09
+    vector("Scheme Pays is not revalued", only("1,926.00"), P50, doubled | {"line 1 Scheme Pays": 50_00}, wrong="1,284.00")
+    vector("Scheme Pays lump sum is not revalued", paid("99.40", lump="99.40"), OPTANT_50, doubled | {
+        "line 1 lump sum": 100_00, "line 1 Scheme Pays lump sum": 60_00,
+    }, wrong="56.80")
+    vector("the modification is not revalued", paid("2,457.10", pension="2,568.00", deduct="110.90"), P50, doubled | {
+        "line 1 modification": 10_00,
+    }, wrong="2,346.20")
+    vector("no row and Scheme Pays above", 12, P50, {
+        "birth": (2002, 5, 11), "leaving": (2020, 5, 10), "line 1 Scheme Pays": 100_01,
+    })
+
+
+def kind_3_negative():
+    """Amounts of pension, lump sum, survivor and modification at 12.84, 0.71, 1.46 and 11.09."""
+    group("14 negative, kind 3")
+
+    def of(pension, lump, survivor, modification):
+        return (OPTANT_50 if lump else AGED_50) | {
+            "line 1 pension": pension, "line 1 lump sum": lump, "line 1 survivor": survivor,
+            "line 1 modification": modification,
+        }
+
+    vector("1,109p pension, 1,284p modification: 0", paid("0", pension="142.3956", deduct="142.3956"), of(1109, 0, 0, 1284))
+    vector("a penny more of modification", 14, of(1109, 0, 0, 1285))
+    vector("no benefit and 1p modification", 14, of(0, 0, 0, 1))
+    vector("no benefit and 1p modification, Choice Optant", 14, OPTANT_50, {"line 1 modification": 1})
+    # 12.84 + 20.44 - 33.27 and 141.24 + 2.92 - 144.17 pence
+    vector("a hundredth of a penny above zero", paid("0", pension="0.1284", survivor="0.2044", deduct="0.3327"), of(1, 0, 14, 3))
+    vector("a hundredth of a penny below zero", 14, of(11, 0, 2, 13))
+    # 12.84 + 4.97 + 4.38 - 22.18 and 38.52 + 16.33 + 11.68 - 66.54 pence; 12.84 + 21.30 + 10.22 - 44.36
+    vector("a hundredth of a penny above zero, with a lump sum", paid(
+        "0", pension="0.1284", lump="0.0497", survivor="0.0438", deduct="0.2218",
+    ), of(1, 7, 3, 2))
+    vector("a hundredth of a penny below zero, with a lump sum", 14, of(3, 23, 8, 6))
+    vector("pension, lump sum and survivor: 0", paid(
+        "0", pension="0.1284", lump="0.2130", survivor="0.1022", deduct="0.4436",
+    ), of(1, 30, 7, 4))
+    vector("below zero, with an AVC", 14, of(0, 0, 0, 1) | {"AVC": 100_00})
+    vector("far below zero", 14, of(0, LIMIT, LIMIT, LIMIT))
+    vector("nothing at all", paid("0"), of(0, 0, 0, 0))
+    vector("nothing at all, Choice Optant", paid("0"), OPTANT_50)
+    # 1,437p at 15.77 and 1,577p at 14.37; 1,480p at 16.15 and 1,615p at 14.80
+    for sex, label in ((MALE, "a man"), (FEMALE, "a woman")):
+        at_59 = of(1437, 0, 0, 1577) | {"sex": sex, "birth": (1960, 5, 11)}
+        at_60 = of(1480, 0, 0, 1615) | {"sex": sex, "birth": (1960, 5, 10)}
+        vector(f"{label} of 59: 0", paid("0", pension="226.6149", deduct="226.6149"), at_59)
+        vector(f"{label} of 59, a penny more of modification", 14, at_59, {"line 1 modification": 1578})
+        vector(f"{label} of 60: 0", paid("0", pension="239.02", deduct="239.02"), at_60)
+        vector(f"{label} of 60, a penny more of modification", 14, at_60, {"line 1 modification": 1616})
+
+
+def kind_3_rounding():
+    group("rounding, kind 3")
+    # 36.5 and 35.5 pence, and both
+    vector("a half penny goes up, to odd", paid("0.37", survivor="0.3650"), AGED_50, {"line 1 survivor": 25}, wrong="0.36")
+    vector("a half penny goes up, to even", paid("0.36", lump="0.3550"), OPTANT_50, {"line 1 lump sum": 50}, wrong="0.35")
+    vector("items are not rounded", paid("0.72", lump="0.3550", survivor="0.3650"), OPTANT_50, {
+        "line 1 lump sum": 50, "line 1 survivor": 25,
+    }, wrong="0.73")
+    # 128.4 pence
+    vector("paid to the penny", paid("1.28", pension="1.2840"), AGED_50, {"line 1 pension": 10}, wrong="1.00")
+    # 38.52 + 51.12 + 59.86 pence, 51.36 + 14.91 + 83.22, 38.52 + 62.48 + 81.76 - 33.27 and 38.52 + 46.15 + 75.92 - 11.09
+    for total, pay, pension, lump, survivor, modification in (
+        ("149.50", "1.50", 3, 72, 41, 0),
+        ("149.49", "1.49", 4, 21, 57, 0),
+        ("149.49 with a deduction", "1.49", 3, 88, 56, 3),
+        ("149.50 with a deduction", "1.50", 3, 65, 52, 1),
+    ):
+        vector(f"{total} pence", paid(
+            pay, pension=f"{pension * 1284}/10000", lump=f"{lump * 71}/10000", survivor=f"{survivor * 146}/10000",
+            deduct=f"{modification * 1109}/10000",
+        ), OPTANT_50, {
+            "line 1 pension": pension, "line 1 lump sum": lump, "line 1 survivor": survivor,
+            "line 1 modification": modification,
+        })
+    low, half = {"revaluation": 14_999}, {"revaluation": 15_000}
+    vector("1p pension at 1.4999", paid("0.13", pension="0.1284"), AGED_50, low | {"line 1 pension": 1})
+    vector("1p pension at 1.5000", paid("0.26", pension="0.2568"), AGED_50, half | {"line 1 pension": 1}, wrong="0.19")
+    vector("1p survivor at 1.4999", paid("0.01", survivor="0.0146"), AGED_50, low | {"line 1 survivor": 1})
+    vector("1p survivor at 1.5000", paid("0.03", survivor="0.0292"), AGED_50, half | {"line 1 survivor": 1}, wrong="0.02")
+    vector("1p lump sum at 1.4999", paid("0.01", lump="0.0071"), OPTANT_50, low | {"line 1 lump sum": 1})
+    vector("1p lump sum at 1.5000", paid("0.01", lump="0.0142"), OPTANT_50, half | {"line 1 lump sum": 1})
+    vector("1p and 1p additional at 1.5000 are 3p", paid("0.39", pension="0.3852"), AGED_50, half | {
+        "line 1 pension": 1, "line 1 additional pension": 1,
+    }, wrong="0.51")
+    vector("1p and 1p dependant's at 1.5000 are 3p", paid("0.04", survivor="0.0438"), AGED_50, half | {
+        "line 1 survivor": 1, "line 1 dependant's additional": 1,
+    }, wrong="0.06")
+
+
+def kind_3_survivor():
+    """The dependant's additional pension is added, as step 1 says, though 001, 2.22 speaks of netting it off."""
+    group("dependant's additional pension in the 2008 section")
+    for sex, label in ((MALE, "a man"), (FEMALE, "a woman")):
+        of = {"sex": sex}
+        vector(f"{label}, below the survivor's", paid("204.40", survivor="204.40"), AGED_50, of | {
+            "line 1 survivor": 100_00, "line 1 dependant's additional": 40_00,
+        }, wrong="87.60")
+        vector(f"{label}, as much", paid("292.00", survivor="292.00"), AGED_50, of | {
+            "line 1 survivor": 100_00, "line 1 dependant's additional": 100_00,
+        }, wrong="0")
+        vector(f"{label}, above the survivor's", paid("73.00", survivor="73.00"), AGED_50, of | {
+            "line 1 survivor": 10_00, "line 1 dependant's additional": 40_00,
+        })
+        vector(f"{label}, alone", paid("58.40", survivor="58.40"), AGED_50, of | {"line 1 dependant's additional": 40_00})
+    # 1,038.00 at 1.052 is 1,091.976; at 1.15 and at 1.12
+    more = {"line 1 dependant's additional": 100_00}
+    vector("001, B, 35", paid("25,688.48", pension="24,432.70", survivor="1,255.7770"), B_001, more | {"birth": (1983, 11, 1)},
+           wrong="25,446.52")
+    vector("001, B, 34", paid("25,156.02", pension="23,933.00", survivor="1,223.0176"), B_001, more, wrong="24,920.37")
+    # 5,163.00 at 1.17 is 6,040.71; at 1.46
+    vector("001, D", paid("198,359.44", pension="163,372.95", lump="26,167.05", survivor="8,819.4366"), D_001, more,
+           wrong="198,017.80")
+    # 110.00 at 12.84
+    vector("additional pension", only("1,412.40"), P50, {"line 1 additional pension": 10_00})
+
+
+def kind_3_choice_optants():
+    """The lump sum is the mandatory one and the pension the one after commutation: neither is worked from the other."""
+    group("Choice Optants")
+    whole = OPTANT_P50 | {"line 1 lump sum": 100_00, "line 1 survivor": 100_00}
+    vector("the lump sum is added", paid("1,355.00", pension="1,284.00", lump="71.00"), OPTANT_P50, {
+        "line 1 lump sum": 100_00,
+    }, wrong="1,284.00")
+    vector("the flag alone changes nothing", P50_PAID, OPTANT_P50)
+    vector("lump sum alone", paid("71.00", lump="71.00"), OPTANT_50, {"line 1 lump sum": 100_00})
+    vector("each benefit", paid("1,501.00", pension="1,284.00", lump="71.00", survivor="146.00"), whole)
+    # 70.00 at 12.84, 60.00 at 0.71, 100.00 at 1.46
+    reduced = whole | {"line 1 Scheme Pays": 30_00, "line 1 Scheme Pays lump sum": 40_00}
+    shown = {"pension": "898.80", "lump": "42.60", "survivor": "146.00"}
+    vector("Scheme Pays off each", paid("1,087.40", **shown), reduced)
+    # less 10.00 at 11.09, and 5.00 at 12.84, 20.00 at 1.46 and 30.00 at 0.71: 110.90 + 114.70
+    debits = {"line 1 debit pension": 5_00, "line 1 debit survivor": 20_00, "line 1 debit lump sum": 30_00}
+    vector("Scheme Pays and divorce debits", paid("972.70", **shown), reduced, debits)
+    vector("and a modification", paid("861.80", deduct="110.90", **shown), reduced, debits | {"line 1 modification": 10_00})
+    # at 2.0000: 170.00 at 12.84, 160.00 at 0.71, 200.00 at 1.46, less 110.90 and 229.40
+    vector("and revalued", paid(
+        "2,248.10", pension="2,182.80", lump="113.60", survivor="292.00", deduct="110.90",
+    ), reduced, debits | {"line 1 modification": 10_00, "revaluation": 20_000})
+    lump = OPTANT_P50 | {"line 1 lump sum": 100_00}
+    # 60.00 at 0.71 less 30.00 at 0.71
+    vector("Scheme Pays and a divorce debit on the lump sum", paid("1,305.30", pension="1,284.00", lump="42.60"), lump, {
+        "line 1 Scheme Pays lump sum": 40_00, "line 1 debit lump sum": 30_00,
+    })
+    vector("Scheme Pays takes the lump sum, and a divorce debit on it", paid("1,262.70", pension="1,284.00"), lump, {
+        "line 1 Scheme Pays lump sum": 100_00, "line 1 debit lump sum": 30_00,
+    })
+    vector("Scheme Pays above the lump sum, and a divorce debit on it", 13, lump, {
+        "line 1 Scheme Pays lump sum": 100_01, "line 1 debit lump sum": 30_00,
+    })
+    vector("a divorce debit of the whole lump sum", paid("1,284.00", pension="1,284.00", lump="71.00"), lump, {
+        "line 1 debit lump sum": 100_00,
+    })
+    vector("a divorce debit above the lump sum", paid("1,213.00", pension="1,284.00", lump="71.00"), lump, {
+        "line 1 debit lump sum": 200_00,
+    })
+    # 31,500.00 less 10,000.00, at leaving: 36,855.00 less 10,000.00 at 0.71
+    vector("001, D, Scheme Pays on the lump sum", paid(
+        "191,088.62", pension="163,372.95", lump="19,067.05", survivor="8,648.6166",
+    ), D_001, {"line 1 Scheme Pays lump sum": 10_000_00}, wrong="189,881.62")
+    # 11,700.00 at 0.71
+    vector("001, D, a divorce debit on the lump sum", paid("189,881.62", **D_001_PAID), D_001, {
+        "line 1 debit lump sum": 10_000_00,
+    }, wrong="191,088.62")
+    for years, factor in ((18, "33.00"), (59, "88.00"), (60, "90.00"), (64, "99.00")):
+        for sex, label in ((MALE, "a man"), (FEMALE, "a woman")):
+            vector(f"{label} of {years}, lump sum alone", paid(factor, lump=factor), OPTANT_50, {
+                "sex": sex, "birth": (2020 - years, 5, 10), "leaving": (2015, 1, 1), "line 1 lump sum": 100_00,
+            })
+
+
+def kind_3_divorce():
+    group("divorce debits, kind 3")
+    # £10.00 at 12.84, 1.46 and 0.71
+    for name, pay in (("debit pension", "1,155.60"), ("debit survivor", "1,269.40")):
+        for label, base in (("", P50), (", Choice Optant", OPTANT_P50), (", a woman", P50 | {"sex": FEMALE})):
+            vector(f"{name} alone{label}", paid(pay, pension="1,284.00"), base, {f"line 1 {name}": 10_00})
+    vector("debit lump sum alone", paid("1,276.90", pension="1,284.00"), OPTANT_P50, {"line 1 debit lump sum": 10_00})
+    # 128.40 + 29.20 + 21.30
+    two = {"line 1 debit pension": 10_00, "line 1 debit survivor": 20_00}
+    three = two | {"line 1 debit lump sum": 30_00}
+    vector("both", paid("1,126.40", pension="1,284.00"), P50, two, wrong="1,441.60")
+    vector("all three", paid("1,105.10", pension="1,284.00"), OPTANT_P50, three, wrong="1,462.90")
+    vector("all three revalued", paid("2,210.20", pension="2,568.00"), OPTANT_P50, three | {
+        "revaluation": 20_000,
+    }, wrong="2,389.10")
+    # 36.5, 35.5 and 72 pence
+    vector("a half penny goes up, to odd", paid("1,283.63", pension="1,284.00"), P50, {
+        "line 1 debit survivor": 25,
+    }, wrong="1,283.64")
+    vector("a half penny goes up, to even", paid("1,283.64", pension="1,284.00"), OPTANT_P50, {
+        "line 1 debit lump sum": 50,
+    }, wrong="1,283.65")
+    vector("the debits together", paid("1,283.28", pension="1,284.00"), OPTANT_P50, {
+        "line 1 debit survivor": 25, "line 1 debit lump sum": 50,
+    }, wrong="1,283.27")
+    # 2p at 12.84 and 1.46, 5p at 0.71, off £150.00 at 12.84
+    for name, pence, becomes, pay, wrong in (
+        ("debit pension", 1, 2, "1,925.74", "1,925.87"),
+        ("debit survivor", 1, 2, "1,925.97", "1,925.99"),
+        ("debit lump sum", 3, 5, "1,925.96", "1,925.97"),
+    ):
+        vector(f"{pence}p {name} at 1.5000 is {becomes}p", paid(pay, pension="1,926.00"), OPTANT_P50, {
+            "revaluation": 15_000, f"line 1 {name}": pence,
+        }, wrong=wrong)
+    # 1,052.00 at 17.39 and 374.51 at 1.59; 356.00 at 1.052 is 374.512
+    vector("001, C, two fifths of the pension", paid("28,414.93", pension="45,735.70", survivor="1,568.9802"), C_001, {
+        "line 1 debit pension": 1_000_00, "line 1 debit survivor": 356_00,
+    })
+
+
+def kind_3_award():
+    group("16 award, kind 3")
+    for label, base in (("", P50), (", Choice Optant", OPTANT_P50), (", a woman", P50 | {"sex": FEMALE})):
+        vector(f"equal{label}", paid("0", pension="1,284.00"), base, DEBIT_OF_ALL)
+        # 1.46 pence
+        vector(f"a penny above{label}", 16, base, DEBIT_OF_ALL | {"line 1 debit survivor": 1})
+        vector(f"a penny below{label}", paid("0.01", pension="1,284.00", survivor="0.0146"), base, DEBIT_OF_ALL | {
+            "line 1 survivor": 1,
+        })
+    # 0.71 pence
+    vector("a penny above by the lump sum", 16, OPTANT_P50, DEBIT_OF_ALL | {"line 1 debit lump sum": 1})
+    vector("a penny below by the lump sum", paid("0.01", pension="1,284.00", lump="0.0071"), OPTANT_P50, DEBIT_OF_ALL | {
+        "line 1 lump sum": 1,
+    })
+    # 128,374.32 + 11.68 + 13.49, 128,348.64 + 42.34 + 8.52, 128,322.96 + 56.94 + 20.59, 128,361.48 + 24.82 + 14.20 pence
+    for label, pay, pension, survivor, lump in (
+        ("128,399.49 pence, a penny below", "0.01", 99_98, 8, 19),
+        ("128,399.50 pence, equal", "0", 99_96, 29, 12),
+        ("128,400.49 pence, equal", "0", 99_94, 39, 29),
+        ("128,400.50 pence, a penny above", None, 99_97, 17, 20),
+    ):
+        vector(label, paid(pay, pension="1,284.00") if pay else 16, OPTANT_P50, {
+            "line 1 debit pension": pension, "line 1 debit survivor": survivor, "line 1 debit lump sum": lump,
+        })
+    # 127,796.52 + 602.98 and 128,066.16 + 334.34 pence
+    vector("128,399.50 pence, no lump sum, equal", paid("0", pension="1,284.00"), P50, {
+        "line 1 debit pension": 99_53, "line 1 debit survivor": 4_13,
+    })
+    vector("128,400.50 pence, no lump sum, a penny above", 16, P50, {
+        "line 1 debit pension": 99_74, "line 1 debit survivor": 2_29,
+    })
+    vector("nothing but a debit", 16, AGED_50, {"line 1 debit survivor": 1})
+    vector("nothing but a debit lump sum", 16, OPTANT_50, {"line 1 debit lump sum": 1})
+    # Age 18: 1p of lump sum is 0.33 pence, 2p are 0.66.
+    aged_18 = OPTANT_50 | {"birth": (2002, 5, 10)}
+    vector("a debit of 0.33 pence off nothing", paid("0"), aged_18, {"line 1 debit lump sum": 1})
+    vector("a debit of 0.66 pence off nothing", 16, aged_18, {"line 1 debit lump sum": 2})
+    vector("Scheme Pays takes all", 16, P50, {"line 1 Scheme Pays": 100_00, "line 1 debit pension": 1})
+    vector("modification takes all", 16, AGED_50, {
+        "line 1 pension": 1109, "line 1 modification": 1284, "line 1 debit survivor": 1,
+    })
+    vector("modification takes more", 14, AGED_50, {
+        "line 1 pension": 1109, "line 1 modification": 1285, "line 1 debit survivor": 1,
+    })
+    vector("an AVC does not make up for the award", 16, P50, {"line 1 debit pension": 100_01, "AVC": LIMIT})
+
+
+def kind_3_avc():
+    group("AVC and underpin, kind 3")
+    vector("added to the gross value", paid("198,688.62", avc="500.00", **D_001_PAID), D_001, {"AVC": 500_00})
+    vector("added to the gross value, a woman", paid(
+        "47,305.17", pension="45,735.70", survivor="1,568.9802", avc="0.49",
+    ), C_001, {"AVC": 49}, wrong="47,305.49")
+    # 36.5 pence and 1 penny
+    vector("added after the rounding", paid("0.38", survivor="0.3650", avc="0.01"), AGED_50, {"line 1 survivor": 25, "AVC": 1})
+    vector("on a gross value of 0", paid("0.49", pension="1,284.00", avc="0.49"), P50, DEBIT_OF_ALL | {"AVC": 49})
+    vector("nothing but an AVC", paid("0.01", avc="0.01"), AGED_50, {"AVC": 1})
+    vector("no underpin: transferred in", 4, P50, {"flags": 1, "transfer-in": 5_000_00})
+    vector("no underpin: own contributions", 4, P50, {"own contributions": 5_000_00})
+    vector("no underpin: both", 4, P50, {"flags": 1, "transfer-in": 5_000_00, "own contributions": 5_000_00})
+
+
+def kind_3_largest():
+    group("largest, kind 3")
+    shown = {"survivor": "318,000,000.00", "avc": "10,000,000.00"}
+    every_benefit = {f"line 1 {name}": LIMIT for name in AMOUNTS[:5]}
+    every_debit = {f"line 1 {name}": LIMIT for name in DIVORCE_DEBITS}
+    for sex, label in ((MALE, "a man"), (FEMALE, "a woman")):
+        oldest = OPTANT_50 | {"sex": sex, "birth": (1955, 5, 11), "revaluation": 100_000, "AVC": LIMIT}
+        # 200,000,000 at 17.83 and 1.59, 100,000,000 at 0.99
+        vector(f"{label} of 64, every benefit", paid(
+            "3,993,000,000.00", pension="3,566,000,000.00", lump="99,000,000.00", **shown,
+        ), oldest, every_benefit)
+        # 10,000,000 at 16.74
+        vector(f"{label} of 64, and modification", paid(
+            "3,825,600,000.00", pension="3,566,000,000.00", lump="99,000,000.00", deduct="167,400,000.00", **shown,
+        ), oldest, every_benefit | {"line 1 modification": LIMIT})
+        # 190,000,000 at 17.83 and 90,000,000 at 0.99
+        reduced = {"pension": "3,387,700,000.00", "lump": "89,100,000.00", "deduct": "167,400,000.00"}
+        vector(f"{label} of 64, every amount of the line", paid("3,637,400,000.00", **reduced, **shown), oldest, {
+            f"line 1 {name}": LIMIT for name in AMOUNTS
+        })
+        # 100,000,000 of each at 17.83, 1.59 and 0.99: 2,041,000,000
+        vector(f"{label} of 64, every benefit and divorce debit", paid(
+            "1,952,000,000.00", pension="3,566,000,000.00", lump="99,000,000.00", **shown,
+        ), oldest, every_benefit | every_debit)
+        vector(f"{label} of 64, every amount", paid("1,596,400,000.00", **reduced, **shown), oldest, {
+            f"line 1 {name}": LIMIT for name in AMOUNTS
+        } | every_debit)
+        vector(f"{label} of 64, every divorce debit off nothing", 16, oldest, every_debit)
+        vector(f"{label} of 64, every divorce debit and modification", 14, oldest, every_debit | {"line 1 modification": LIMIT})
+
+
+def together(*several):
+    """Changes made together; flags are added to each other."""
+    made, flags = {}, 0
+    for changes in several:
+        made |= changes
+        flags |= changes.get("flags", 0)
+    return made | ({"flags": flags} if flags else {})
+
+
+def order_of_new_faults():
+    """What must be zero in kind 3, the sex and flag 4 in other kinds: each with one fault of every other refusal."""
+    fours = {
+        "the line's date": {"line 1 date": (2035, 5, 10)},
+        "transferred in": {"flags": 1},
+        "transfer-in": {"transfer-in": 1},
+        "own contributions": {"own contributions": 1},
+        "flag 8": {"flags": 8},
+    }
+    lump_sums = {f"{name} {pence}p": {f"line 1 {name}": pence} for name in OF_CHOICE_OPTANTS for pence in (1, LIMIT + 1)}
+    of_kind_3 = P50 | {"leaving": (2020, 5, 10)}
+    optant = OPTANT_P50 | {"leaving": (2020, 5, 10)}
+    sets = [
+        ("kind 3", of_kind_3, KIND_3_FAULTS, fours | lump_sums),
+        ("kind 3, Choice Optant", optant, OPTANT_FAULTS, fours),
+        ("kind 1", P54 | {"leaving": (2021, 6, 1)}, KIND_1_FAULTS, {"sex 1": {"sex": 1}, "flag 4": {"flags": 4}}),
+        ("kind 2", P4, KIND_2_FAULTS, {"sex 1": {"sex": 1}, "flag 4": {"flags": 4}}),
+    ]
+    for label, base, faults, wrongs in sets:
+        group(f"order of tests, 4 in {label}")
+        for name, wrong in wrongs.items():
+            for number, fault in faults.items():
+                if number != 4:
+                    vector(f"{name} and {number}", 3 if number == 3 else 4, base, together(base, wrong, fault))
+    for label, base, faults in (("kind 3", of_kind_3, KIND_3_FAULTS), ("kind 3, Choice Optant", optant, OPTANT_FAULTS)):
+        group(f"order of tests, 5 in {label}")
+        for code in (0, 3, 255):
+            for number, fault in faults.items():
+                if number != 5:
+                    vector(f"sex {code} and {number}", min(number, 5), base, together(base, fault, {"sex": code}))
+        vector("sex 0, the lump sum above the limit", 5 if base["flags"] else 4, base, {"sex": 0, "line 1 lump sum": LIMIT + 1})
+        vector("sex 3 and leaving before birth", 5, base, {"sex": 3, "leaving": (1970, 5, 9)})
+    group("order of tests, pairs of kind 3")
+    vector("a pensioner of 65", 7, of_kind_3, {"status": 3, "birth": (1955, 5, 10)})
+    vector("65 and Scheme Pays above", 11, of_kind_3, {"birth": (1955, 5, 10), "line 1 Scheme Pays": 100_01})
+    vector("17 and a total below zero", 12, of_kind_3, {"birth": (2002, 5, 11), "line 1 modification": 200_00})
+    vector("17 and an award above", 12, of_kind_3, {"birth": (2002, 5, 11), "line 1 debit pension": 100_01})
+    vector("Scheme Pays above the pension and the lump sum", 13, optant, {
+        "line 1 Scheme Pays": 100_01, "line 1 Scheme Pays lump sum": 1, "line 1 modification": LIMIT,
+    })
+    vector("born on the guarantee date, no sex", 5, of_kind_3, {"birth": (2020, 5, 10), "sex": 0})
+
+
+def tables_agree():
+    """The two transcriptions of TV3 and TV4."""
+    here = {("2008m", years): factors_2008(MALE, years) for years in TV3}
+    here |= {("2008f", years): factors_2008(FEMALE, years) for years in TV4}
+    if here != {key: figures for key, figures in IN_FILE.items() if key[0] not in KINDS}:
+        FAULTS.append("the factors of the 2008 section are not those of figures/factors.txt")
+
+
 def main():
     commands = ("stdin", "stdout", "list")
     if len(sys.argv) != 2 or sys.argv[1] not in commands:
@@ -1763,9 +2738,14 @@ def main():
         entitlement, ages, leap_days, scheme_pays, negative, rounding, several_lines, largest, underpin, voluntary_fund,
         order_of_tests, payment, too_old_or_refer, order_of_lines, divorce_debits, divorce_examples, divorce_rounding,
         divorce_revaluation, divorce_lines, award, award_in_parts, divorce_first_value, divorce_underpin, divorce_avc,
-        divorce_largest, divorce_largest_lines, divorce_form,
+        divorce_largest, divorce_largest_lines, divorce_form, kind_3_examples, kind_3_every_age, kind_3_rows, kind_3_birthdays,
+        kind_3_leap_days, kind_3_sex, kind_3_kind, kind_3_flags, kind_3_reserved, kind_3_range, kind_3_amounts, kind_3_dates,
+        kind_3_entitlement, kind_3_too_old_or_refer, kind_3_scheme_pays, kind_3_negative, kind_3_rounding, kind_3_survivor,
+        kind_3_choice_optants, kind_3_divorce, kind_3_award, kind_3_avc, kind_3_largest,
+        order_of_new_faults,
     ):
         vectors()
+    tables_agree()
     if FAULTS:
         sys.stderr.write("".join(f"{fault}\n" for fault in FAULTS))
         return 1

@@ -30,10 +30,14 @@ pub accepted-gross : (c : Case) → rulesOf (c .kind) .transfers ≡ false → A
 unfolding tests
 accepted-gross c k n = accepted-payment c n ∙ payment-unflagged c (grossOf c) (no-transfer-flag c k (none-given Reserved (tests c) n))
 
--- so it is of kind 1, the 1995 section
+-- so it is of kind 1, the 1995 section, and of kind 3, the 2008 section
 pub section-1995-paid : (c : Case) → c .kind ≡ 1 → Accepted c → paid (answerOf c) ≡ grossOf c + c .avc
 unfolding rulesOf
 section-1995-paid c k = accepted-gross c (rw k refl)
+
+pub section-2008-paid : (c : Case) → c .kind ≡ 3 → Accepted c → paid (answerOf c) ≡ grossOf c + c .avc
+unfolding rulesOf
+section-2008-paid c k = accepted-gross c (rw k refl)
 
 -- the gross value and the debit value make up the first value
 pub accepted-divorce : (c : Case) → Accepted c → grossOf c + debitValue (factorsOf c) c ≡ firstValue (factorsOf c) c

@@ -57,6 +57,7 @@ member kind birth leaving guarantee revaluation first =
       flags = 0;
       count = 1;
       service = 3;
+      sex = 0;
       birth = birth;
       leaving = leaving;
       guarantee = guarantee;

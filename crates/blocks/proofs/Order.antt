@@ -24,7 +24,7 @@ pub by-head :
     (s : List ℕ) (unnamed : Bool) (lines : List Line) →
     (let c = caseWith (λ h. fieldOf s (headAt h)) lines in
     formTestsBy (kindFault (c .kind) (c .count))
-    (unnamed || (headReservedFault c || anyLine (lineReservedFault (rulesOf (c .kind)) (c .count)) (caseOf s)))
+    (unnamed || (headReservedFault c || anyLine (lineReservedFault (rulesOf (c .kind)) (c .flags) (c .count)) (caseOf s)))
     (headRangeFault c || anyLine (lineRangeFault (rulesOf (c .kind)) (c .count)) (caseOf s)))
     ≡ formTests unnamed (caseOf s)
 unfolding caseOf caseBy reservedFault rangeFault headReservedFault headRangeFault datesRangeFault

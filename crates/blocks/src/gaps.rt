@@ -34,7 +34,7 @@ pub(crate) fn unnamed_fault(b: &[u8]) -> bool
     ensures { λ r. ⌜ r ≡ block.unnamedFault (now (b .entry)) ⌝ }
 {
     nonzero(b, 2, 2)
-        | nonzero(b, 14, 2)
+        | nonzero(b, 15, 1)
         | nonzero(b, 36, 4)
         | nonzero(b, 68, 4)
         | nonzero(b, 140, 4)

@@ -29,9 +29,9 @@ use refusals::refuse_if;
 
 // What line i of a block, from 0, breaks. Past the count nearly every line is zeros, which its bytes show at less cost than its
 // fields.
-fn faults_of_block_line(b: &[u8], rules: Rules, count: u8, i: u8) -> Faults
+fn faults_of_block_line(b: &[u8], rules: Rules, flags: u8, count: u8, i: u8) -> Faults
     requires { ⌜ (i ≤ 3) × (512 ≤ length (now b)) ⌝ }
-    ensures { λ r. ⌜ (r .reserved ≡ lineReservedFault rules count i (lineBy (λ e. fieldOf (now (b .entry)) (place e)) i)) × (r .range ≡ lineRangeFault rules count i (lineBy (λ e. fieldOf (now (b .entry)) (place e)) i)) ⌝ }
+    ensures { λ r. ⌜ (r .reserved ≡ lineReservedFault rules flags count i (lineBy (λ e. fieldOf (now (b .entry)) (place e)) i)) × (r .range ≡ lineRangeFault rules count i (lineBy (λ e. fieldOf (now (b .entry)) (place e)) i)) ⌝ }
 {
     if count <= i && !line_nonzero(b, i as usize) {
         return Faults {
@@ -39,21 +39,21 @@ fn faults_of_block_line(b: &[u8], rules: Rules, count: u8, i: u8) -> Faults
             range: false,
         };
     }
-    faults_of_line(rules, count, i, line_of(b, i as usize))
+    faults_of_line(rules, flags, count, i, line_of(b, i as usize))
 }
 
 // What the lines of a block break. Each is read and tested by itself: a whole case made for this would be spread over the stack and
 // copied again.
-fn faults_of_block_lines(b: &[u8], kind: u16, count: u8) -> Faults
+fn faults_of_block_lines(b: &[u8], kind: u16, flags: u8, count: u8) -> Faults
     requires { ⌜ 512 ≤ length (now b) ⌝ }
-    ensures { λ r. ⌜ (r .reserved ≡ anyLine (lineReservedFault (rulesOf kind) count) (caseOf (now (b .entry)))) × (r .range ≡ anyLine (lineRangeFault (rulesOf kind) count) (caseOf (now (b .entry)))) ⌝ }
+    ensures { λ r. ⌜ (r .reserved ≡ anyLine (lineReservedFault (rulesOf kind) flags count) (caseOf (now (b .entry)))) × (r .range ≡ anyLine (lineRangeFault (rulesOf kind) count) (caseOf (now (b .entry)))) ⌝ }
 {
     let rules = rules_of(kind);
     let mut reserved = false;
     let mut range = false;
     let mut i: u8 = 0;
     while i < 4 {
-        let faults = faults_of_block_line(b, rules, count, i);
+        let faults = faults_of_block_line(b, rules, flags, count, i);
         reserved = reserved | faults.reserved;
         range = range | faults.range;
         i += 1;
@@ -69,7 +69,7 @@ fn form_verdict_of(b: &[u8]) -> Verdict
     let zero = zero_case();
     let zero_lines = zero.lines;
     let head = case_with(b, zero_lines);
-    let lines = faults_of_block_lines(b, head.kind, head.count);
+    let lines = faults_of_block_lines(b, head.kind, head.flags, head.count);
     form_verdict_by(head, unnamed_fault(b), lines)
 }
 

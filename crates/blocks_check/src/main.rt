@@ -75,7 +75,8 @@ fn put_codes(out: &mut [u8], at: usize, c: Case) -> usize {
 fn put_counts(out: &mut [u8], at: usize, c: Case) -> usize {
     let flags = put_field(out, at, c.flags as u64);
     let count = put_field(out, flags, c.count as u64);
-    put_field(out, count, c.service as u64)
+    let service = put_field(out, count, c.service as u64);
+    put_field(out, service, c.sex as u64)
 }
 
 fn put_dates(out: &mut [u8], at: usize, c: Case) -> usize {

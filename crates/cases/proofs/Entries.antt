@@ -20,6 +20,7 @@ head-listed layout.receiver = refl
 head-listed layout.flags = refl
 head-listed layout.count = refl
 head-listed layout.service = refl
+head-listed layout.sex = refl
 head-listed layout.birth = refl
 head-listed layout.leaving = refl
 head-listed layout.guarantee = refl

@@ -34,10 +34,10 @@ unfolding reservedFault lineReservedFault
 zero-past c e i h p =
     let l = line c i in
     let r = rulesOf (c .kind) in
-    let lines = or-false (headReservedFault c) (anyLine (lineReservedFault r (c .count)) c) e .1 in
+    let lines = or-false (headReservedFault c) (anyLine (lineReservedFault r (c .flags) (c .count)) c) e .1 in
     let tests =
-    or-false (leb (c .count) i && lineFilled l) (reservedFilled r i l)
-    (any-false 4 (λ j. lineReservedFault r (c .count) j (line c j)) lines i h) in
+    or-false (leb (c .count) i && lineFilled l) (reservedFilled r (c .flags) i l)
+    (any-false 4 (λ j. lineReservedFault r (c .flags) (c .count) j (line c j)) lines i h) in
     and-right-false (leb (c .count) i) (lineFilled l) (le-leb (c .count) i p) (tests .0)
 
 -- each amount of a line of zeros is zero
@@ -52,9 +52,9 @@ pub zero-amounts : (l : Line) → lineFilled l ≡ false → Each amounts (λ a.
 zero-amounts l z = each amounts (zero-amount l z)
 
 -- nothing in it is what its kind or place forbids, and no amount is above the limit
-pub zero-reserved : (rules : Rules) (i : ℕ) (l : Line) → lineFilled l ≡ false → reservedFilled rules i l ≡ false
+pub zero-reserved : (rules : Rules) (flags i : ℕ) (l : Line) → lineFilled l ≡ false → reservedFilled rules flags i l ≡ false
 unfolding lineFilled reservedFilled
-zero-reserved rules i l z =
+zero-reserved rules flags i l z =
     let date = or-false (not (isZero (l .date))) (anyFilled amounts l) z .0 in
     let n = zero-amount l z in
     rw (date, n lump, n schemePaysLump, n debitLump, n modification, n additional, n dependant) (simp and-false)
@@ -77,6 +77,6 @@ module _ (rules : Rules) (count i : ℕ) (l : Line) where
   range-past h = rw (le-ltb i count h, and-false (rules .dated)) (bool.or-false (any (λ a. tooLarge (amountIn a l)) amounts))
 
   -- past the count, a line of zeros breaks nothing
-  pub zero-faults : count ≤ i → lineFilled l ≡ false → (lineReservedFault rules count i l ≡ false) × (lineRangeFault rules count i l ≡ false)
+  pub zero-faults : (flags : ℕ) → count ≤ i → lineFilled l ≡ false → (lineReservedFault rules flags count i l ≡ false) × (lineRangeFault rules count i l ≡ false)
   unfolding lineReservedFault
-  zero-faults h z = (rw (z, le-leb count i h, zero-reserved rules i l z) refl, rw (range-past h) (zero-range l z))
+  zero-faults flags h z = (rw (z, le-leb count i h, zero-reserved rules flags i l z) refl, rw (range-past h) (zero-range l z))

@@ -4,7 +4,7 @@ use Prim.Native.Nat.{ℕ}
 use mathlib.Core.Bool.{true, false}
 use mathlib.Core.List.{List, [], _∷_}
 use lib.ListN.{getD}
-use Rattle.factors.specs.declared.Table.the-variants.{Section1995, Scheme2015, NoTable}
+use Rattle.factors.specs.declared.Table.the-variants.{Section1995, Section2008, Scheme2015, NoTable}
 use Rattle.cases.specs.declared.Rules.{Rules}
 
 -- kind 1: the 1995 section with pension age 60
@@ -15,7 +15,9 @@ section1995 =
       dated = false;
       transfers = false;
       lump = true;
+      «choice_optants» = false;
       modification = true;
+      sex = false;
       «pension_age» = 60;
       table = Section1995;
     }
@@ -28,9 +30,26 @@ scheme2015 =
       dated = true;
       transfers = true;
       lump = false;
+      «choice_optants» = false;
       modification = false;
+      sex = false;
       «pension_age» = 0;
       table = Scheme2015;
+    }
+
+-- kind 3: the 2008 section with pension age 65, of whose members only Choice Optants have a lump sum
+abbrev pub section2008 : Rules
+section2008 =
+    record {
+      lines = 1;
+      dated = false;
+      transfers = false;
+      lump = false;
+      «choice_optants» = true;
+      modification = true;
+      sex = true;
+      «pension_age» = 65;
+      table = Section2008;
     }
 
 -- no other kind is valued
@@ -41,14 +60,16 @@ noKind =
       dated = false;
       transfers = false;
       lump = false;
+      «choice_optants» = false;
       modification = false;
+      sex = false;
       «pension_age» = 0;
       table = NoTable;
     }
 
 -- the rows by their kinds, from 0
 abbrev pub kinds : List Rules
-kinds = noKind ∷ section1995 ∷ scheme2015 ∷ []
+kinds = noKind ∷ section1995 ∷ scheme2015 ∷ section2008 ∷ []
 
 unfoldable pub rulesOf : ℕ → Rules
 rulesOf kind = getD kinds kind noKind

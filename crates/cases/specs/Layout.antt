@@ -7,7 +7,7 @@ use lib.Dec.{leb}
 
 -- the fields before the lines
 pub data Head : Type 0 where
-  kind number status receiver flags count service : Head
+  kind number status receiver flags count service sex : Head
   birth leaving guarantee statePension revaluation : Head
   avc transfer contributions : Head
   deriving Discrete as head-discrete
@@ -42,6 +42,7 @@ headAt receiver = 9 wide 1
 headAt flags = 10 wide 1
 headAt count = 11 wide 1
 headAt service = 12 wide 2
+headAt sex = 14 wide 1
 headAt birth = 16 wide 4
 headAt leaving = 20 wide 4
 headAt guarantee = 24 wide 4
@@ -85,7 +86,7 @@ check = 508 wide 4
 -- amount-listed
 abbrev pub heads : List Head
 heads =
-    kind ∷ number ∷ status ∷ receiver ∷ flags ∷ count ∷ service ∷
+    kind ∷ number ∷ status ∷ receiver ∷ flags ∷ count ∷ service ∷ sex ∷
     birth ∷ leaving ∷ guarantee ∷ statePension ∷ revaluation ∷ avc ∷ transfer ∷ contributions ∷ []
 
 abbrev pub amountsOfLine : List Amount

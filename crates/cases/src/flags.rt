@@ -14,8 +14,14 @@ pub fn gmp_flag(flags: u8) -> bool
     flags / 2 % 2 == 1
 }
 
+pub(crate) fn choice_optant_flag(flags: u8) -> bool
+    ensures { λ r. ⌜ r ≡ flag.choiceOptantFlag flags ⌝ }
+{
+    flags / 4 % 2 == 1
+}
+
 pub(crate) fn unused_flag(flags: u8) -> bool
     ensures { λ r. ⌜ r ≡ flag.unusedFlag flags ⌝ }
 {
-    flags / 4 != 0
+    flags / 8 != 0
 }

@@ -5,6 +5,7 @@ ghost use Rattle.refusals.specs.Tests.{first, verdictNumber};
 ghost use Rattle.cases.specs.Form as form;
 use crate::Case;
 use crate::Faults;
+use crate::flags::choice_optant_flag;
 use crate::flags::gmp_flag;
 use crate::flags::transfer_flag;
 use crate::flags::unused_flag;
@@ -41,6 +42,15 @@ fn receiver_listed(x: u8) -> bool
     }
 }
 
+fn sex_listed(x: u8) -> bool
+    ensures { λ r. ⌜ r ≡ form.sexListed x ⌝ }
+{
+    match x {
+        1..=2 => true,
+        _ => false,
+    }
+}
+
 // Whether a field before the lines that must be zero is not.
 fn head_reserved_fault(c: Case) -> bool
     ensures { λ r. ⌜ r ≡ form.headReservedFault c ⌝ }
@@ -50,6 +60,8 @@ fn head_reserved_fault(c: Case) -> bool
         | (!gmp_flag(c.flags) & !calendar::is_zero(c.state_pension))
         | (!transfer_flag(c.flags) & (c.transfer != 0))
         | (!rules.transfers & (transfer_flag(c.flags) | (c.contributions != 0)))
+        | (!rules.choice_optants & choice_optant_flag(c.flags))
+        | (!rules.sex & (c.sex != 0))
 }
 
 fn dates_range_fault(c: Case) -> bool
@@ -65,9 +77,11 @@ fn dates_range_fault(c: Case) -> bool
 fn head_range_fault(c: Case) -> bool
     ensures { λ r. ⌜ r ≡ form.headRangeFault c ⌝ }
 {
+    let rules = rules_of(c.kind);
     (c.number == 0)
         | !status_listed(c.status)
         | !receiver_listed(c.receiver)
+        | (rules.sex & !sex_listed(c.sex))
         | (c.revaluation < 10000)
         | (100000 < c.revaluation)
         | too_large(c.avc)

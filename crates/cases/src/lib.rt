@@ -40,6 +40,7 @@ pub struct Case {
     pub flags: u8,
     pub count: u8,
     pub service: u16,
+    pub sex: u8,
     pub birth: Date,
     pub leaving: Date,
     pub guarantee: Date,
@@ -59,9 +60,13 @@ pub struct Rules {
     pub dated: bool,
     // Whether there may be a transfer in, and own contributions.
     pub transfers: bool,
-    // Whether there may be a lump sum, and debits on it.
+    // Whether every member may have a lump sum, and debits on it.
     pub lump: bool,
+    // Whether there are Choice Optants, who may have them.
+    pub choice_optants: bool,
     pub modification: bool,
+    // Whether the sex is entered.
+    pub sex: bool,
     // The pension age where the lines are not dated.
     pub pension_age: u16,
     // The notes' table that holds its factors.

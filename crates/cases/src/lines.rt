@@ -5,12 +5,13 @@ ghost use Rattle.numbers.specs.Lists.{any};
 ghost use Rattle.cases.specs.Layout.{amounts};
 ghost use Rattle.cases.specs.Entries.{amountIn, anyLine};
 ghost use Rattle.cases.specs.Kinds.{rulesOf};
-ghost use Rattle.cases.specs.Form.{filled, tooLarge, lineFilled, reservedFilled, lineReservedFault, lineRangeFault};
+ghost use Rattle.cases.specs.Form.{filled, tooLarge, lineFilled, lumpAllowed, reservedFilled, lineReservedFault, lineRangeFault};
 use crate::Case;
 use crate::Faults;
 use crate::Line;
 use crate::Rules;
 use crate::bits::all_bits;
+use crate::flags::choice_optant_flag;
 use crate::kinds::rules_of;
 
 // Whether one of some amounts is not zero, and whether one is above the limit.
@@ -61,12 +62,20 @@ fn test_amounts(n: &[u64]) -> AmountTests
     }
 }
 
-// Whether something that must be zero in line i by its kind and place is not.
-fn reserved_filled(rules: Rules, i: u8, l: Line) -> bool
-    ensures { λ r. ⌜ r ≡ reservedFilled rules i l ⌝ }
+// Whether the member may have a lump sum.
+fn lump_allowed(rules: Rules, flags: u8) -> bool
+    ensures { λ r. ⌜ r ≡ lumpAllowed rules flags ⌝ }
+{
+    rules.lump | (rules.choice_optants & choice_optant_flag(flags))
+}
+
+// Whether something that must be zero in line i by its kind, flags and place is not.
+fn reserved_filled(rules: Rules, flags: u8, i: u8, l: Line) -> bool
+    ensures { λ r. ⌜ r ≡ reservedFilled rules flags i l ⌝ }
 {
     (!rules.dated & !calendar::is_zero(l.date))
-        | (!rules.lump & ((l.lump != 0) | (l.scheme_pays_lump != 0) | (l.debit_lump != 0)))
+        | (!lump_allowed(rules, flags)
+            & ((l.lump != 0) | (l.scheme_pays_lump != 0) | (l.debit_lump != 0)))
         | (!rules.modification & (l.modification != 0))
         | ((1 <= i) & ((l.additional != 0) | (l.dependant != 0)))
 }
@@ -92,12 +101,12 @@ fn line_filled(l: Line) -> bool
 
 // What line i of a case with `count` lines breaks. Past the count nearly every line is zeros and breaks nothing, so it is not tested
 // further.
-pub fn faults_of_line(rules: Rules, count: u8, i: u8, l: Line) -> Faults
-    ensures { λ r. ⌜ (r .reserved ≡ lineReservedFault rules count i l) × (r .range ≡ lineRangeFault rules count i l) ⌝ }
+pub fn faults_of_line(rules: Rules, flags: u8, count: u8, i: u8, l: Line) -> Faults
+    ensures { λ r. ⌜ (r .reserved ≡ lineReservedFault rules flags count i l) × (r .range ≡ lineRangeFault rules count i l) ⌝ }
 {
     if i < count {
         return Faults {
-            reserved: reserved_filled(rules, i, l),
+            reserved: reserved_filled(rules, flags, i, l),
             range: some_too_large(l) | (rules.dated & !calendar::is_real(l.date)),
         };
     }
@@ -115,7 +124,7 @@ pub fn faults_of_line(rules: Rules, count: u8, i: u8, l: Line) -> Faults
 }
 
 pub(crate) fn faults_of_lines(c: Case) -> Faults
-    ensures { λ r. ⌜ (r .reserved ≡ anyLine (lineReservedFault (rulesOf (c .kind)) (c .count)) c) × (r .range ≡ anyLine (lineRangeFault (rulesOf (c .kind)) (c .count)) c) ⌝ }
+    ensures { λ r. ⌜ (r .reserved ≡ anyLine (lineReservedFault (rulesOf (c .kind)) (c .flags) (c .count)) c) × (r .range ≡ anyLine (lineRangeFault (rulesOf (c .kind)) (c .count)) c) ⌝ }
 {
     let rules = rules_of(c.kind);
     let mut reserved = false;
@@ -124,7 +133,7 @@ pub(crate) fn faults_of_lines(c: Case) -> Faults
     while i < 4 {
         let k = i as usize;
         let l = c.lines[k];
-        let faults = faults_of_line(rules, c.count, i, l);
+        let faults = faults_of_line(rules, c.flags, c.count, i, l);
         reserved = reserved | faults.reserved;
         range = range | faults.range;
         i += 1;

@@ -14,9 +14,9 @@ use Rattle.factors.specs.declared.Factors.{Factors}
 use Rattle.factors.specs.declared.Row.{Row}
 use Rattle.factors.specs.declared.Row.the-variants.{Found, Absent}
 use Rattle.factors.specs.declared.Table.{Table}
-use Rattle.factors.specs.declared.Table.the-variants.{Section1995, Scheme2015, NoTable}
+use Rattle.factors.specs.declared.Table.the-variants.{Section1995, Section2008, Scheme2015, NoTable}
 use Rattle.factors.specs.Rows.{fourColumns, twoColumns, found, rowNumbers, Small}
-use Rattle.factors.specs.Tables.{section1995Table, scheme2015Table, rowAt, rowIn}
+use Rattle.factors.specs.Tables.{section1995Table, section2008Table, scheme2015Table, rowAt, rowIn}
 
 abbrev inRange : ℕ → Bool
 inRange n = leb 1 n && leb n 9999
@@ -75,8 +75,9 @@ small-two row at = omega (arith, at 0, at 1)
 
 -- each table has the rows that its note has, and whatever is found in it is small
 pub small-row : (t : Table) (age ahead : ℕ) → Small (found (rowIn t age ahead))
-unfolding section1995Table scheme2015Table rowIn
+unfolding section1995Table section2008Table scheme2015Table rowIn
 small-row Section1995 age ahead = found-small fourColumns small-four 22 38 4 section1995Table refl age
+small-row Section2008 age ahead = found-small fourColumns small-four 18 47 4 section2008Table refl age
 small-row Scheme2015 age ahead = found-small twoColumns small-two 1 50 2 scheme2015Table refl ahead
 small-row NoTable age ahead = omega arith
 

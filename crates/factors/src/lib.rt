@@ -1,7 +1,7 @@
 // The factor tables of the guidance notes, in hundredths, and looking up a row of them.
 ghost use mathlib.Core.Path.{_≡_};
 ghost use Rattle.factors.specs.Rows.{fourColumns, twoColumns, rowNumbers};
-ghost use Rattle.factors.specs.Tables.{section1995Table, scheme2015Table, rowAt, rowIn};
+ghost use Rattle.factors.specs.Tables.{section1995Table, section2008Table, scheme2015Table, rowAt, rowIn};
 
 // The factors of a line, in hundredths; zero where a kind has none.
 pub struct Factors {
@@ -19,6 +19,7 @@ pub enum Row {
 // The notes' tables. A kind that is not listed has none.
 pub enum Table {
     Section1995,
+    Section2008,
     Scheme2015,
     NoTable,
 }
@@ -65,6 +66,58 @@ const SECTION_1995: [[u16; 4]; 38] = [
     [1938, 94, 153, 1354],
     [1985, 97, 154, 1395],
     [2034, 99, 154, 1437],
+];
+
+// Tables TV3 and TV4 of 001 by age, from 18: A pension, B lump sum, C survivor, then the deduction. That is factor E of TV3 for men;
+// of TV4 for women it is factor E below 60 and F from 60. TV4 repeats the figures of TV3, and is not a second table.
+const SECTION_2008: [[u16; 4]; 47] = [
+    [650, 33, 76, 465],
+    [664, 34, 80, 478],
+    [678, 35, 82, 491],
+    [693, 36, 84, 504],
+    [707, 36, 86, 518],
+    [722, 37, 88, 532],
+    [738, 38, 90, 546],
+    [753, 39, 92, 561],
+    [769, 40, 94, 577],
+    [785, 41, 96, 592],
+    [802, 42, 99, 608],
+    [819, 43, 101, 625],
+    [836, 44, 103, 642],
+    [854, 45, 105, 660],
+    [872, 46, 108, 678],
+    [891, 47, 110, 696],
+    [910, 49, 112, 715],
+    [929, 50, 115, 735],
+    [949, 51, 117, 755],
+    [970, 52, 119, 776],
+    [990, 53, 121, 797],
+    [1012, 55, 124, 819],
+    [1034, 56, 126, 842],
+    [1056, 57, 128, 865],
+    [1079, 59, 130, 890],
+    [1102, 60, 132, 914],
+    [1126, 62, 134, 940],
+    [1151, 63, 137, 966],
+    [1176, 64, 139, 993],
+    [1202, 66, 141, 1021],
+    [1229, 68, 143, 1049],
+    [1256, 69, 145, 1079],
+    [1284, 71, 146, 1109],
+    [1313, 73, 148, 1141],
+    [1342, 74, 150, 1173],
+    [1373, 76, 152, 1207],
+    [1404, 78, 153, 1242],
+    [1437, 80, 154, 1278],
+    [1470, 82, 156, 1316],
+    [1504, 84, 157, 1354],
+    [1540, 86, 158, 1395],
+    [1577, 88, 158, 1437],
+    [1615, 90, 159, 1480],
+    [1655, 92, 159, 1526],
+    [1696, 94, 159, 1573],
+    [1739, 97, 159, 1623],
+    [1783, 99, 159, 1674],
 ];
 
 // Table TV1 of 003 by years ahead, from 1: A pension, B survivor.
@@ -121,7 +174,7 @@ const SCHEME_2015: [[u16; 2]; 50] = [
     [553, 75],
 ];
 
-// The factors of a row of 001: A pension, B lump sum, C survivor, E deduction.
+// The factors of a row of 001: A pension, B lump sum, C survivor, the last one the deduction.
 fn four_columns(row: [u16; 4]) -> Factors
     ensures { λ r. ⌜ r ≡ fourColumns row ⌝ }
 {
@@ -178,6 +231,12 @@ fn section_1995_row(age: u16) -> Row
     row_of_four(&SECTION_1995, 22, age as u32)
 }
 
+fn section_2008_row(age: u16) -> Row
+    ensures { λ r. ⌜ r ≡ rowAt fourColumns 18 section2008Table age ⌝ }
+{
+    row_of_four(&SECTION_2008, 18, age as u32)
+}
+
 fn scheme_2015_row(ahead: u32) -> Row
     ensures { λ r. ⌜ r ≡ rowAt twoColumns 1 scheme2015Table ahead ⌝ }
 {
@@ -191,6 +250,7 @@ pub fn row_in(table: Table, age: u16, ahead: u32) -> Row
 {
     match table {
         Table::Section1995 => section_1995_row(age),
+        Table::Section2008 => section_2008_row(age),
         Table::Scheme2015 => scheme_2015_row(ahead),
         Table::NoTable => Row::Absent,
     }

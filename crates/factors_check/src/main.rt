@@ -71,6 +71,11 @@ fn look_up(table: u64, key: u64) -> Row {
             return factors::row_in(Table::Section1995, key as u16, 0);
         }
     }
+    if table == 2008 {
+        if key <= 65535 {
+            return factors::row_in(Table::Section2008, key as u16, 0);
+        }
+    }
     if table == 2015 {
         if key <= 4294967295 {
             return factors::row_in(Table::Scheme2015, 0, key as u32);
@@ -112,14 +117,20 @@ struct Tally {
     agree: u64,
 }
 
+// Whether a line belongs to the table of a year and a mark: the byte after the year is m or f where men and women have tables of
+// their own, and a blank elsewhere.
+fn belongs(s: &[u8], year: Number, table: u64, mark: u8) -> bool {
+    (year.value == table) & (after(s, year.end, mark) != year.end)
+}
+
 // The tally after a line. A row's key is the one that follows the rows met before, so that none is left out or
 // stands twice. A row that differs is printed.
-fn take_line(s: &[u8], table: u64, first: u64, t: Tally) -> Tally {
+fn take_line(s: &[u8], table: u64, mark: u8, first: u64, t: Tally) -> Tally {
     let year = digits(s, 0);
-    if year.value != table {
+    if !belongs(s, year, table, mark) {
         return t;
     }
-    let key = digits(s, after(s, year.end, b' '));
+    let key = digits(s, after(s, after(s, year.end, mark), b' '));
     let met = std::num::wrapping_add_u64(t.met, 1);
     if key.value == std::num::wrapping_add_u64(first, t.met) {
         if let Row::Found(f) = look_up(table, key.value) {
@@ -156,12 +167,12 @@ fn line_end(s: &[u8], from: usize) -> usize
 }
 
 // Compares each line of a table. A line that starts with no year, as a comment does, belongs to none.
-fn compare(s: &[u8], table: u64, first: u64) -> Tally {
+fn compare(s: &[u8], table: u64, mark: u8, first: u64) -> Tally {
     let mut t = Tally { met: 0, agree: 0 };
     let mut at = 0;
     while at < s.len() {
         let end = line_end(s, at);
-        t = take_line(&s[at..end], table, first, t);
+        t = take_line(&s[at..end], table, mark, first, t);
         at = end + 1;
     }
     t
@@ -202,15 +213,33 @@ fn print_absent(table: u64, keys: [u64; 4]) {
     io::write_all(STDOUT_FILENO, b"\n");
 }
 
+fn check_section_1995(text: &[u8]) {
+    let rows = compare(text, 1995, b' ', 22);
+    print_count(1995, rows.agree, b" rows agree\n");
+    print_absent(1995, [0, 21, 60, 65535]);
+    print_count(1995, rows_below(1995, 65536), b" ages have a row\n");
+}
+
+fn check_section_2008(text: &[u8]) {
+    let men = compare(text, 2008, b'm', 18);
+    print_count(2008, men.agree, b" rows for men agree\n");
+    let women = compare(text, 2008, b'f', 18);
+    print_count(2008, women.agree, b" rows for women agree\n");
+    print_absent(2008, [0, 17, 65, 65535]);
+    print_count(2008, rows_below(2008, 65536), b" ages have a row\n");
+}
+
+fn check_scheme_2015(text: &[u8]) {
+    let rows = compare(text, 2015, b' ', 1);
+    print_count(2015, rows.agree, b" rows agree\n");
+    print_absent(2015, [0, 51, 52, 100000]);
+    print_count(2015, rows_below(2015, 100001), b" years have a row\n");
+}
+
 fn main() {
     let mut text = io::large_buffer();
     let n = io::read_full(STDIN_FILENO, &mut text);
-    let section = compare(&text[..n], 1995, 22);
-    print_count(1995, section.agree, b" rows agree\n");
-    print_absent(1995, [0, 21, 60, 65535]);
-    print_count(1995, rows_below(1995, 65536), b" ages have a row\n");
-    let scheme = compare(&text[..n], 2015, 1);
-    print_count(2015, scheme.agree, b" rows agree\n");
-    print_absent(2015, [0, 51, 52, 100000]);
-    print_count(2015, rows_below(2015, 100001), b" years have a row\n");
+    check_section_1995(&text[..n]);
+    check_section_2008(&text[..n]);
+    check_scheme_2015(&text[..n]);
 }

@@ -9,7 +9,7 @@ use Rattle.cases.specs.declared.Case.{Case}
 unfoldable pub underpin : Case → ℕ
 underpin c = cond (transferFlag (c .flags)) (c .transfer + c .contributions) 0
 
--- 5: the gross value, or the underpin where that is larger. Kind 1 may not have the transfer flag, so its underpin is 0 and it pays
--- the gross value itself (the law section-1995-paid). 6: then the AVC comes on top (a house rule)
+-- 5: the gross value, or the underpin where that is larger. Kinds 1 and 3 may not have the transfer flag, so their underpin is 0 and
+-- they pay the gross value itself (the laws section-1995-paid and section-2008-paid). 6: then the AVC comes on top (a house rule)
 unfoldable pub payment : Case → ℕ → ℕ
 payment c g = max g (underpin c) + c .avc

@@ -49,7 +49,7 @@ factor memberPension f = f .pension
 factor lumpSum f = f .lump
 factor survivorPension f = f .survivor
 
--- 3: what the modification takes off, by factor E
+-- 3: what the modification takes off, by the factor for it: E, or F for women from 60 in the 2008 section
 abbrev pub deductionAt : Factors → Line → ℕ
 deductionAt f l = l .modification * f .deduction
 

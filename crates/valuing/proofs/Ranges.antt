@@ -1,7 +1,7 @@
 -- What refusal 5 leaves: amounts, revaluation and so the items are in their ranges.
 -- Assumes nothing.
 use Prim.Native.Nat.{ℕ, _+_, _*_, _≤_, _<_}
-use mathlib.Core.Bool.{Bool, true, false, cond, not}
+use mathlib.Core.Bool.{Bool, true, false, cond, not, _&&_}
 use mathlib.Core.List.{[], _∷_}
 use mathlib.Core.Path.{_≡_}
 use native.Mathlib.Nat.{mul-le-mul}
@@ -14,7 +14,7 @@ use Rattle.numbers.proofs.Below.{any-false}
 use Rattle.numbers.proofs.Lists.{each-not}
 use Rattle.cases.specs.Layout.{amounts}
 use Rattle.cases.specs.Entries.{line, anyLine, amountIn}
-use Rattle.cases.specs.Form.{tooLarge, lineRangeFault, headRangeFault, rangeFault, statusListed, receiverListed, datesRangeFault}
+use Rattle.cases.specs.Form.{tooLarge, lineRangeFault, headRangeFault, rangeFault, statusListed, receiverListed, sexListed, datesRangeFault}
 use Rattle.cases.specs.Flags.{transferFlag}
 use Rattle.cases.specs.Kinds.{rulesOf}
 use Rattle.cases.specs.declared.Case.{Case}
@@ -32,13 +32,13 @@ module _ (c : Case) (sound : rangeFault c ≡ false) where
   head-in-range =
       let t =
       none-holds (eqb (c .number) 0)
-      (not (statusListed (c .status)) ∷ not (receiverListed (c .receiver)) ∷ ltb (c .revaluation) 10000 ∷ ltb 100000 (c .revaluation) ∷ tooLarge (c .avc) ∷ tooLarge (c .transfer) ∷ tooLarge (c .contributions) ∷ datesRangeFault c ∷ [])
+      (not (statusListed (c .status)) ∷ not (receiverListed (c .receiver)) ∷ (rulesOf (c .kind) .sex && not (sexListed (c .sex))) ∷ ltb (c .revaluation) 10000 ∷ ltb 100000 (c .revaluation) ∷ tooLarge (c .avc) ∷ tooLarge (c .transfer) ∷ tooLarge (c .contributions) ∷ datesRangeFault c ∷ [])
       (both .0) in
       record {
-        revaluation = ltb-false 100000 (c .revaluation) (t .1 .1 .1 .1 .0);
-        avc = ltb-false 1000000000 (c .avc) (t .1 .1 .1 .1 .1 .0);
-        transfer = ltb-false 1000000000 (c .transfer) (t .1 .1 .1 .1 .1 .1 .0);
-        contributions = ltb-false 1000000000 (c .contributions) (t .1 .1 .1 .1 .1 .1 .1 .0);
+        revaluation = ltb-false 100000 (c .revaluation) (t .1 .1 .1 .1 .1 .0);
+        avc = ltb-false 1000000000 (c .avc) (t .1 .1 .1 .1 .1 .1 .0);
+        transfer = ltb-false 1000000000 (c .transfer) (t .1 .1 .1 .1 .1 .1 .1 .0);
+        contributions = ltb-false 1000000000 (c .contributions) (t .1 .1 .1 .1 .1 .1 .1 .1 .0);
       }
 
   pub line-in-range : (i : ℕ) → i < 4 → LineInRange (line c i)

@@ -12,9 +12,9 @@ use libc::STDIN_FILENO;
 use libc::STDOUT_FILENO;
 use refusals::Refusal;
 
-// The bytes of a record: 15 numbers before the lines, for each of four lines its date and its eight amounts, and then for each the
+// The bytes of a record: 16 numbers before the lines, for each of four lines its date and its eight amounts, and then for each the
 // three amounts of its divorce debit.
-const HEAD: usize = 15 * 8;
+const HEAD: usize = 16 * 8;
 
 const LINE: usize = 9 * 8;
 
@@ -71,14 +71,15 @@ fn case_of(b: &[u8], lines: [Line; 4]) -> Case {
         flags: u8_of(buffers::u64_at(b, 32)),
         count: u8_of(buffers::u64_at(b, 40)),
         service: u16_of(buffers::u64_at(b, 48)),
-        birth: date(buffers::u64_at(b, 56)),
-        leaving: date(buffers::u64_at(b, 64)),
-        guarantee: date(buffers::u64_at(b, 72)),
-        state_pension: date(buffers::u64_at(b, 80)),
-        revaluation: u32_of(buffers::u64_at(b, 88)),
-        avc: buffers::u64_at(b, 96),
-        transfer: buffers::u64_at(b, 104),
-        contributions: buffers::u64_at(b, 112),
+        sex: u8_of(buffers::u64_at(b, 56)),
+        birth: date(buffers::u64_at(b, 64)),
+        leaving: date(buffers::u64_at(b, 72)),
+        guarantee: date(buffers::u64_at(b, 80)),
+        state_pension: date(buffers::u64_at(b, 88)),
+        revaluation: u32_of(buffers::u64_at(b, 96)),
+        avc: buffers::u64_at(b, 104),
+        transfer: buffers::u64_at(b, 112),
+        contributions: buffers::u64_at(b, 120),
         lines,
     }
 }

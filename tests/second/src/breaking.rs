@@ -17,13 +17,18 @@ pub const BREAKS: &[(Refusal, &str, Break)] = &[
     (4, "line past the count", line_past_count),
     (4, "state pension date without flag", state_pension_without_flag),
     (4, "transfer-in payment without flag", transfer_in_without_flag),
-    (4, "field of the other kind", field_of_other_kind),
+    (4, "flag of another kind", flag_of_another_kind),
+    (4, "field of another kind", field_of_another_kind),
+    (4, "sex in kind 1 or 2", sex_in_kind_1_or_2),
+    (4, "Choice Optant in kind 1 or 2", choice_optant_in_kind_1_or_2),
+    (4, "lump sum of no Choice Optant", lump_sum_of_no_choice_optant),
     (4, "additional amount past line 1", additional_past_line_1),
     (4, "divorce debit past the count", divorce_debit_past_count),
     (4, "divorce debit lump sum in kind 2", divorce_lump_in_kind_2),
     (5, "case number", case_number),
     (5, "status code", status_code),
     (5, "receiving code", receiving_code),
+    (5, "sex", sex_code),
     (5, "amount", amount_too_large),
     (5, "divorce debit", divorce_debit_too_large),
     (5, "revaluation", revaluation_range),
@@ -31,6 +36,7 @@ pub const BREAKS: &[(Refusal, &str, Break)] = &[
     (6, "birth not before leaving", birth_not_before_leaving),
     (6, "leaving after guarantee", leaving_after_guarantee),
     (6, "line 1 before the 65th birthday", line_1_early),
+    (6, "line 1 before 28 February, born on 29", line_1_before_leap_birthday),
     (6, "other line not before line 1", other_line_late),
     (17, "two lines on one day", lines_alike),
     (17, "a line later than the one above", line_rises),
@@ -40,6 +46,7 @@ pub const BREAKS: &[(Refusal, &str, Break)] = &[
     (9, "service", |_, random, block| block.put(at::SERVICE, 2, random.below(3))),
     (11, "age", too_old),
     (11, "age, to be referred too", too_old_to_refer),
+    (11, "age, born on 29 February", too_old_from_leap_birthday),
     (10, "refer", state_pension_early),
     (10, "refer, a day before pension age", refer_before_pension_age),
     (12, "factor", no_row),
@@ -53,9 +60,9 @@ pub const BREAKS: &[(Refusal, &str, Break)] = &[
 
 fn kind_not_listed(_: &Model, random: &mut Random, block: &mut Block) {
     let kind = match random.below(4) {
-        0 => random.pick(&[0, 3, 4, 255, 65_535]),
-        1 => 256 * random.between(1, 255) as u64 + random.below(3),
-        _ => random.between(3, 65_535) as u64,
+        0 => random.pick(&[0, 4, 65_535]),
+        1 => 256 * random.between(1, 255) as u64 + random.below(4),
+        _ => random.between(4, 65_535) as u64,
     };
     block.put(at::KIND, 2, kind);
 }
@@ -63,7 +70,7 @@ fn kind_not_listed(_: &Model, random: &mut Random, block: &mut Block) {
 fn count_not_allowed(_: &Model, random: &mut Random, block: &mut Block) {
     let count = match random.below(3) {
         0 => 0,
-        1 if block.kind() == 1 => random.between(2, 5),
+        1 if block.rules().most_lines == 1 => random.between(2, 5),
         1 => random.pick(&[5, 6, 128]),
         _ => random.between(5, 255),
     };
@@ -84,17 +91,24 @@ fn nonzero_amount(random: &mut Random) -> u64 {
 }
 
 fn unnamed_byte(model: &Model, random: &mut Random, block: &mut Block) {
-    let offset = match random.below(4) {
-        0 => random.pick(&[2, 3, 14, 15, 36, 37, 38, 39]),
+    let offset = match random.below(5) {
+        0 => random.pick(&[2, 3, 36, 37, 38, 39]),
         1 => random.pick(&at::LINES) + random.between(4, 7) as usize,
         2 => random.pick(&[448, 449, 506, 507]),
+        3 => at::SEX + 1,
         _ => random.pick(model.unnamed_bytes()),
     };
     block.put(offset, 1, nonzero_byte(random));
 }
 
 fn unused_flag(_: &Model, random: &mut Random, block: &mut Block) {
-    block.set_flag(1 << random.between(2, 7), true);
+    block.set_flag(1 << random.between(3, 7), true);
+}
+
+fn flag_of_another_kind(_: &Model, random: &mut Random, block: &mut Block) {
+    let allowed = block.rules().flags;
+    let flags: Vec<u64> = [TRANSFERRED_IN, CHOICE_OPTANT].into_iter().filter(|flag| allowed & flag == 0).collect();
+    block.set_flag(random.pick(&flags), true);
 }
 
 fn line_past_count(model: &Model, random: &mut Random, block: &mut Block) {
@@ -138,23 +152,44 @@ fn transfer_in_without_flag(_: &Model, random: &mut Random, block: &mut Block) {
     block.put(at::TRANSFER_IN, 8, nonzero_amount(random));
 }
 
-fn field_of_other_kind(_: &Model, random: &mut Random, block: &mut Block) {
+fn field_of_another_kind(_: &Model, random: &mut Random, block: &mut Block) {
     if block.kind() == 2 {
         let start = block.some_line(random);
-        return block.put_amount(start, random.pick(&at::ONLY_KIND_1), nonzero_amount(random));
+        let fields = [at::MODIFICATION, at::LUMP, at::SCHEME_PAYS_LUMP, at::DEBIT_LUMP];
+        return block.put_amount(start, random.pick(&fields), nonzero_amount(random));
     }
-    match random.below(4) {
-        0 => block.set_flag(TRANSFERRED_IN, true),
-        1 => block.put(at::CONTRIBUTIONS, 8, nonzero_amount(random)),
-        2 => block.put_date(at::LINES[0] + at::DATE, date(2030, 6, 1)),
+    match random.below(3) {
+        0 => block.put(at::CONTRIBUTIONS, 8, nonzero_amount(random)),
+        1 => block.put_date(at::LINES[0] + at::DATE, date(2030, 6, 1)),
         _ => block.put(at::LINES[0] + random.below(4) as usize, 1, nonzero_byte(random)),
     }
 }
 
-fn divorce_lump_in_kind_2(model: &Model, random: &mut Random, block: &mut Block) {
-    if block.kind() != 2 {
-        *block = acceptable_kind_2(model, random);
+fn sex_in_kind_1_or_2(model: &Model, random: &mut Random, block: &mut Block) {
+    make_of_kind(model, random, block, &[1, 2]);
+    let other = nonzero_byte(random);
+    block.put(at::SEX, 1, random.pick(&[MALE, FEMALE, other]));
+}
+
+fn choice_optant_in_kind_1_or_2(model: &Model, random: &mut Random, block: &mut Block) {
+    make_of_kind(model, random, block, &[1, 2]);
+    block.set_flag(CHOICE_OPTANT, true);
+}
+
+/// One of the lump sum and the debits on it, or all of them.
+fn lump_sum_of_no_choice_optant(model: &Model, random: &mut Random, block: &mut Block) {
+    make_of_kind(model, random, block, &[3]);
+    block.set_flag(CHOICE_OPTANT, false);
+    let one = random.pick(&at::LUMP_SUM);
+    let all = random.one_in(4);
+    for field in at::LUMP_SUM {
+        let pence = if all || field == one { nonzero_amount(random) } else { 0 };
+        block.put_amount(at::LINES[0], field, pence);
     }
+}
+
+fn divorce_lump_in_kind_2(model: &Model, random: &mut Random, block: &mut Block) {
+    make_of_kind(model, random, block, &[2]);
     let start = block.some_line(random);
     block.put_amount(start, at::DEBIT_LUMP, nonzero_amount(random));
 }
@@ -182,6 +217,12 @@ fn receiving_code(_: &Model, random: &mut Random, block: &mut Block) {
     block.put(at::RECEIVER, 1, receiver as u64);
 }
 
+fn sex_code(model: &Model, random: &mut Random, block: &mut Block) {
+    make_of_kind(model, random, block, &[3]);
+    let sex = if random.one_in(3) { 0 } else { random.at_edges(3, 255) };
+    block.put(at::SEX, 1, sex as u64);
+}
+
 fn too_large(random: &mut Random) -> u64 {
     match random.below(4) {
         0 => LARGEST_AMOUNT + 1,
@@ -197,10 +238,7 @@ fn amount_too_large(_: &Model, random: &mut Random, block: &mut Block) {
         fields.push(at::TRANSFER_IN);
     }
     let start = block.some_line(random);
-    let allowed = |field: &usize| {
-        (block.kind() == 1 || !at::ONLY_KIND_1.contains(field))
-            && (start == at::LINES[0] || !at::ONLY_LINE_1.contains(field))
-    };
+    let allowed = |field: &usize| block.takes(*field) && (start == at::LINES[0] || !at::ONLY_LINE_1.contains(field));
     if block.kind() == 2 {
         fields.push(at::CONTRIBUTIONS);
     }
@@ -210,8 +248,8 @@ fn amount_too_large(_: &Model, random: &mut Random, block: &mut Block) {
 
 fn divorce_debit_too_large(_: &Model, random: &mut Random, block: &mut Block) {
     let start = block.some_line(random);
-    let fields: &[usize] = if block.kind() == 1 { &at::DIVORCE } else { &[at::DEBIT_PENSION, at::DEBIT_SURVIVOR] };
-    block.put_amount(start, random.pick(fields), too_large(random));
+    let fields: Vec<usize> = at::DIVORCE.into_iter().filter(|&field| block.takes(field)).collect();
+    block.put_amount(start, random.pick(&fields), too_large(random));
 }
 
 fn revaluation_range(_: &Model, random: &mut Random, block: &mut Block) {
@@ -251,6 +289,23 @@ fn date_not_real(_: &Model, random: &mut Random, block: &mut Block) {
     block.put_date(random.pick(&fields), wrong);
 }
 
+/// A 29 February whose 65th birthday is in range.
+fn some_leap_day(random: &mut Random) -> Date {
+    let year = 4 * random.between(476, 533);
+    let leap = date(year, 2, 29);
+    if is_real(leap) {
+        leap
+    } else {
+        date(year + 4, 2, 29)
+    }
+}
+
+/// A guarantee date with a leaving date that it and the birth allow.
+fn put_guarantee_after_leaving(random: &mut Random, block: &mut Block, guarantee: i64) {
+    block.put_day(at::GUARANTEE, guarantee);
+    block.put_day(at::LEAVING, random.at_edges(block.day(at::BIRTH) + 1, guarantee));
+}
+
 fn birth_not_before_leaving(_: &Model, random: &mut Random, block: &mut Block) {
     if random.one_in(2) {
         let birth = block.day(at::BIRTH);
@@ -285,6 +340,17 @@ fn line_1_early(model: &Model, random: &mut Random, block: &mut Block) {
     block.put_day(at::LINES[0] + at::DATE, random.pick(&[any, birthday - 1]));
 }
 
+/// A case of kind 2 born on 29 February whose line 1, its only one, is dated the day before the 65th birthday.
+fn line_1_before_leap_birthday(model: &Model, random: &mut Random, block: &mut Block) {
+    make_of_kind(model, random, block, &[2]);
+    let birth = some_leap_day(random);
+    let birthday = moved_on(birth, 65);
+    block.put_date(at::BIRTH, birth);
+    block.put_day(at::LINES[0] + at::DATE, birthday - 1);
+    put_guarantee_after_leaving(random, block, birthday - 2);
+    block.keep_line_1_alone();
+}
+
 fn other_line_late(model: &Model, random: &mut Random, block: &mut Block) {
     if block.kind() != 2 || block.count() < 2 {
         return leaving_after_guarantee(model, random, block);
@@ -298,7 +364,7 @@ fn other_line_late(model: &Model, random: &mut Random, block: &mut Block) {
 /// The starts of two neighbouring lines after line 1. A block without them is replaced by one that has them.
 fn neighbours(model: &Model, random: &mut Random, block: &mut Block) -> [usize; 2] {
     while block.kind() != 2 || block.count() < 3 {
-        *block = acceptable_kind_2(model, random);
+        *block = acceptable_of(model, random, 2);
     }
     let second = random.between(2, block.count() as i64 - 1) as usize;
     [at::LINES[second - 1], at::LINES[second]]
@@ -345,19 +411,26 @@ fn state_pension_early(_: &Model, random: &mut Random, block: &mut Block) {
 }
 
 fn too_old(_: &Model, random: &mut Random, block: &mut Block) {
-    if block.kind() == 2 {
-        let start = block.some_line(random);
-        let earliest = block.day(start + at::DATE).max(block.day(at::LEAVING));
-        return block.put_day(at::GUARANTEE, random.at_edges(earliest, (earliest + 4_000).min(last_day())));
-    }
-    let birthday = moved_on(block.get_date(at::BIRTH), 60);
-    if birthday <= last_day() {
-        let earliest = birthday.max(block.day(at::LEAVING));
-        block.put_day(at::GUARANTEE, random.at_edges(earliest, (earliest + 4_000).min(last_day())));
-    } else {
+    let reached = match block.rules().pension_age {
+        Some(years) => moved_on(block.get_date(at::BIRTH), years),
+        None => block.day(block.some_line(random) + at::DATE),
+    };
+    if reached > last_day() {
         let guarantee = block.get_date(at::GUARANTEE);
-        block.put_date(at::BIRTH, date(guarantee.year - 61, 6, 1));
+        return block.put_date(at::BIRTH, date(guarantee.year - 66, 6, 1));
     }
+    let earliest = reached.max(block.day(at::LEAVING));
+    let latest = earliest + random.pick(&[400, 4_000]);
+    block.put_day(at::GUARANTEE, random.at_edges(earliest, latest.min(last_day())));
+}
+
+/// A case of kind 1 or 3 born on 29 February, with a guarantee date on or soon after the day on which pension age is reached.
+fn too_old_from_leap_birthday(model: &Model, random: &mut Random, block: &mut Block) {
+    make_of_kind(model, random, block, &[1, 3]);
+    let birth = some_leap_day(random);
+    block.put_date(at::BIRTH, birth);
+    let guarantee = moved_on(birth, block.rules().pension_age.unwrap()) + random.between(0, 1);
+    put_guarantee_after_leaving(random, block, guarantee);
 }
 
 fn too_old_to_refer(model: &Model, random: &mut Random, block: &mut Block) {
@@ -367,32 +440,32 @@ fn too_old_to_refer(model: &Model, random: &mut Random, block: &mut Block) {
 
 fn refer_before_pension_age(model: &Model, random: &mut Random, block: &mut Block) {
     state_pension_early(model, random, block);
-    let reached = if block.kind() == 1 {
-        moved_on(block.get_date(at::BIRTH), 60)
-    } else {
-        at::LINES[..block.count()].iter().map(|start| block.day(start + at::DATE)).min().unwrap()
+    let reached = match block.rules().pension_age {
+        Some(years) => moved_on(block.get_date(at::BIRTH), years),
+        None => at::LINES[..block.count()].iter().map(|start| block.day(start + at::DATE)).min().unwrap(),
     };
     block.put_day(at::GUARANTEE, (reached - 1).min(last_day()));
 }
 
 fn no_row(_: &Model, random: &mut Random, block: &mut Block) {
     let birth = block.get_date(at::BIRTH);
-    if block.kind() == 1 {
+    let (first, last) = block.keys();
+    if block.kind() != 2 {
         block.put_day(at::LEAVING, day_number(birth) + 1);
-        let latest = moved_on(birth, 22) - 1;
+        let latest = moved_on(birth, first) - 1;
         block.put_day(at::GUARANTEE, random.at_edges(day_number(birth) + 1, latest));
         return;
     }
     let line_1 = at::LINES[0] + at::DATE;
-    let past_table = moved_on(block.get_date(at::GUARANTEE), 50) + 1;
+    let past_table = moved_on(block.get_date(at::GUARANTEE), last) + 1;
     if past_table <= last_day() {
         // Not before the date it has, which stands at or after the 65th birthday.
         let earliest = past_table.max(block.day(line_1));
         block.put_day(line_1, random.at_edges(earliest, (earliest + 4_000).min(last_day())));
         return;
     }
-    let mut guarantee = day_number(date(block.get_date(line_1).year - 50, 1, 2));
-    while moved_on(date_of(guarantee), 50) >= block.day(line_1) {
+    let mut guarantee = day_number(date(block.get_date(line_1).year - last, 1, 2));
+    while moved_on(date_of(guarantee), last) >= block.day(line_1) {
         guarantee -= 1;
     }
     block.put_day(at::LEAVING, day_number(birth) + 1);
@@ -401,7 +474,7 @@ fn no_row(_: &Model, random: &mut Random, block: &mut Block) {
 
 fn debit_above(_: &Model, random: &mut Random, block: &mut Block) {
     let start = block.some_line(random);
-    let lump = block.kind() == 1 && random.one_in(2);
+    let lump = block.takes(at::LUMP) && random.one_in(2);
     let (benefits, debit): (&[usize], usize) =
         if lump { (&[at::LUMP], at::SCHEME_PAYS_LUMP) } else { (&[at::PENSION, at::ADDITIONAL], at::SCHEME_PAYS) };
     let reduced = |block: &Block| {
@@ -430,9 +503,7 @@ fn debit_above_and_award(model: &Model, random: &mut Random, block: &mut Block) 
 }
 
 fn total_below_zero(model: &Model, random: &mut Random, block: &mut Block) {
-    if block.kind() != 1 {
-        *block = acceptable_kind_1(model, random);
-    }
+    make_of_kind(model, random, block, &[1, 3]);
     if random.one_in(2) {
         return put_total_near_zero(model, random, block, true);
     }
@@ -462,18 +533,14 @@ fn total_below_zero(model: &Model, random: &mut Random, block: &mut Block) {
 
 /// Any debit value is above a total below zero.
 fn below_zero_and_award(model: &Model, random: &mut Random, block: &mut Block) {
-    if block.kind() != 1 {
-        *block = acceptable_kind_1(model, random);
-    }
+    make_of_kind(model, random, block, &[1, 3]);
     put_award(model, random, block);
     total_below_zero(model, random, block);
 }
 
 /// An underpin above the first value, or above the debit value as well, does not save the case.
 fn award_and_underpin(model: &Model, random: &mut Random, block: &mut Block) {
-    if block.kind() != 2 {
-        *block = acceptable_kind_2(model, random);
-    }
+    make_of_kind(model, random, block, &[2]);
     put_small_benefits(random, block);
     put_award(model, random, block);
     let sums = model.items(&case_of(&block.0)).unwrap();

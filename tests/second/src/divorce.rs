@@ -4,7 +4,7 @@ use crate::generator::{amount, Block};
 use crate::model::*;
 use crate::random::Random;
 
-/// A divorce debit that the block's kind and count allow, with the factor on its line.
+/// A divorce debit that the block's kind, flags and count allow, with the factor on its line.
 #[derive(Clone, Copy)]
 struct Debit {
     start: usize,
@@ -19,7 +19,7 @@ fn debits_of(model: &Model, block: &Block) -> Vec<Debit> {
         let factors = model.factors(&case, line).unwrap();
         debits.push(Debit { start, field: at::DEBIT_PENSION, factor: factors.pension });
         debits.push(Debit { start, field: at::DEBIT_SURVIVOR, factor: factors.survivor });
-        if case.kind == 1 {
+        if block.takes(at::DEBIT_LUMP) {
             debits.push(Debit { start, field: at::DEBIT_LUMP, factor: factors.lump });
         }
     }

@@ -102,6 +102,38 @@ pub fn d_of_003() -> Block {
     block
 }
 
+/// A member of the 2008 section: dates of birth, leaving and guarantee.
+fn member_2008(number: u64, sex: u64, dates: [Date; 3], revaluation: u64, amounts: &[(usize, u64)]) -> Block {
+    let [birth, leaving, guarantee] = dates;
+    let mut block = member(3, number, birth, leaving, guarantee);
+    block.put(at::SEX, 1, sex);
+    block.put(at::REVALUATION, 4, revaluation);
+    put_line(&mut block, 1, amounts);
+    block
+}
+
+/// Examples B and C have the same benefits.
+const B_AND_C_OF_001: [(usize, u64); 2] = [(at::PENSION, 250_000), (at::SURVIVOR, 93_800)];
+
+/// The example prints 1 November 1984 as date of birth, which makes the member 34, and uses the row for 35.
+fn b_of_001(number: u64, birth: Date) -> Block {
+    member_2008(number, MALE, [birth, date(2012, 4, 1), date(2019, 10, 1)], 10_520, &B_AND_C_OF_001)
+}
+
+fn c_of_001() -> Block {
+    let dates = [date(1957, 4, 1), date(2015, 10, 1), date(2020, 10, 1)];
+    member_2008(10, FEMALE, dates, 10_520, &B_AND_C_OF_001)
+}
+
+/// A Choice Optant: the pension after commutation and the mandatory lump sum.
+pub fn d_of_001() -> Block {
+    let dates = [date(1969, 5, 1), date(2012, 4, 1), date(2020, 1, 1)];
+    let amounts = [(at::PENSION, 1_087_500), (at::LUMP, 3_150_000), (at::SURVIVOR, 506_300)];
+    let mut block = member_2008(11, MALE, dates, 11_700, &amounts);
+    block.set_flag(CHOICE_OPTANT, true);
+    block
+}
+
 /// Parts (2) and (3) of Example E are ordinary kind 1 sums; the reserved rights of part (1) are not valued here.
 fn part_of_e_of_001(number: u64, pension: u64, lump: u64, survivor: u64) -> Block {
     let mut block = member(1, number, date(1958, 1, 1), date(1990, 1, 1), date(2012, 1, 1));
@@ -120,6 +152,10 @@ pub fn all() -> Vec<Example> {
         example("003-d", d_of_003()),
         example("001-e2", part_of_e_of_001(6, 48_068, 144_204, 24_034)),
         example("001-e3", part_of_e_of_001(7, 125_000, 375_000, 62_500)),
+        example("001-b-aged-35", b_of_001(8, date(1983, 11, 1))),
+        example("001-b", b_of_001(9, date(1984, 11, 1))),
+        example("001-c", c_of_001()),
+        example("001-d", d_of_001()),
     ]
 }
 

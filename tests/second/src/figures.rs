@@ -90,6 +90,7 @@ fn with_service(months: u64) -> Block {
 const A_ITEMS: &str = "pension 117921.6000 lump 14364.0000 survivor 4817.9250 deduct 234.6000";
 const B_ITEMS: &str = "pension 24704.5500 lump 0.0000 survivor 1196.2552 deduct 0.0000";
 const D_ITEMS: &str = "pension 100090.0000 lump 0.0000 survivor 4755.3750 deduct 0.0000";
+const OPTANT_ITEMS: &str = "pension 163372.9500 lump 26167.0500 survivor 8648.6166 deduct 0.0000";
 
 fn of_the_sum() -> Vec<(Block, String)> {
     let b = |paid: &str, underpin: &str| format!("1 2 pay {paid} {B_ITEMS} underpin {underpin} avc 0.00");
@@ -288,10 +289,14 @@ fn of_divorce_debits() -> Vec<(Block, String)> {
     ]
 }
 
-/// The block with one byte set to 1.
-fn with_byte(mut block: Block, offset: usize) -> Block {
-    block.put(offset, 1, 1);
+/// The block with one byte set to this.
+fn with_byte_of(mut block: Block, offset: usize, byte: u64) -> Block {
+    block.put(offset, 1, byte);
     block
+}
+
+fn with_byte(block: Block, offset: usize) -> Block {
+    with_byte_of(block, offset, 1)
 }
 
 /// Where divorce debits may stand, and how large they may be.
@@ -322,6 +327,148 @@ fn of_reading_divorce_debits() -> Vec<(Block, String)> {
     ]
 }
 
+/// A kind 3 case with a pension of 100p.
+fn born_2008(sex: u64, birth: Date, guarantee: Date) -> Block {
+    let mut block = born(birth, guarantee);
+    block.put(at::KIND, 2, 3);
+    block.put(at::SEX, 1, sex);
+    block
+}
+
+/// Pension age and the ends of TV3 and TV4: 6.50 at 18, 17.83 at 64.
+fn of_ages_in_the_2008_section(sex: u64) -> Vec<(Block, String)> {
+    let paid = |pounds: &str| {
+        format!("1 1 pay {pounds} pension {pounds}00 lump 0.0000 survivor 0.0000 deduct 0.0000 underpin 0.00 avc 0.00")
+    };
+    let refused = |refusal: &str| format!("1 1 refused {refusal}");
+    let born = |birth, guarantee| born_2008(sex, birth, guarantee);
+    let (january_2002, june_1956) = (date(2002, 1, 2), date(1956, 6, 1));
+    let (leap_2000, leap_1956) = (date(2000, 2, 29), date(1956, 2, 29));
+    let to_refer = |block| with_gmp(block, date(2016, 4, 5));
+    vec![
+        (born(january_2002, date(2020, 1, 1)), refused("12 factor")),
+        (born(january_2002, date(2020, 1, 2)), paid("6.50")),
+        (born(leap_2000, date(2018, 2, 27)), refused("12 factor")),
+        (born(leap_2000, date(2018, 2, 28)), paid("6.50")),
+        (born(june_1956, date(2021, 5, 31)), paid("17.83")),
+        (born(june_1956, date(2021, 6, 1)), refused("11 age")),
+        (born(leap_1956, date(2021, 2, 27)), paid("17.83")),
+        (born(leap_1956, date(2021, 2, 28)), refused("11 age")),
+        (to_refer(born(june_1956, date(2021, 5, 31))), refused("10 refer")),
+        (to_refer(born(june_1956, date(2021, 6, 1))), refused("11 age")),
+    ]
+}
+
+/// A modification of 50p at 59 and at 60, when the deduction of women changes its column: 14.37 and 14.80.
+fn of_deductions_in_the_2008_section(sex: u64) -> Vec<(Block, String)> {
+    let less_50p = |guarantee| less(born_2008(sex, date(1960, 6, 1), guarantee), 1, &[(at::MODIFICATION, 50)]);
+    let paid = |pounds: &str, pension: &str, deduct: &str| {
+        format!("1 1 pay {pounds} pension {pension} lump 0.0000 survivor 0.0000 deduct {deduct} underpin 0.00 avc 0.00")
+    };
+    vec![
+        // 1,577p - 718.5p = 858.5p, and 1,615p - 740p = 875p.
+        (less_50p(date(2020, 5, 31)), paid("8.59", "15.7700", "7.1850")),
+        (less_50p(date(2020, 6, 1)), paid("8.75", "16.1500", "7.4000")),
+    ]
+}
+
+/// Example D of 001 with more entries: 12.84, 0.71, 1.46 and 11.09, revalued at 1.1700.
+fn of_choice_optants() -> Vec<(Block, String)> {
+    let paid = |pounds: &str, items: &str| format!("1 11 pay {pounds} {items} underpin 0.00 avc 0.00");
+    let with = |field, pence| less(d_of_001(), 1, &[(field, pence)]);
+    let debits = [(at::DEBIT_PENSION, 100_000), (at::DEBIT_SURVIVOR, 50_000), (at::DEBIT_LUMP, 1_000_000)];
+    let refused = |refusal: &str| format!("1 11 refused {refusal}");
+    vec![
+        // The dependant's pension is added: 516,300 at 1.1700 is 604,071, x 1.46 = 881,943.66.
+        (
+            with(at::DEPENDANT, 10_000),
+            paid("198359.44", "pension 163372.9500 lump 26167.0500 survivor 8819.4366 deduct 0.0000"),
+        ),
+        // No lump sum has to be there: 16,337,295 + 864,861.66 = 17,202,156.66.
+        (with(at::LUMP, 0), paid("172021.57", "pension 163372.9500 lump 0.0000 survivor 8648.6166 deduct 0.0000")),
+        // 3,685,500 - 685,500 = 3,000,000, x 0.71 = 2,130,000.
+        (
+            with(at::SCHEME_PAYS_LUMP, 685_500),
+            paid("193321.57", "pension 163372.9500 lump 21300.0000 survivor 8648.6166 deduct 0.0000"),
+        ),
+        (
+            with(at::SCHEME_PAYS_LUMP, 3_685_500),
+            paid("172021.57", "pension 163372.9500 lump 0.0000 survivor 8648.6166 deduct 0.0000"),
+        ),
+        (with(at::SCHEME_PAYS_LUMP, 3_685_501), refused("13 debit")),
+        (with(at::SCHEME_PAYS, 1_272_376), refused("13 debit")),
+        // 117,000 x 12.84 = 1,502,280; 58,500 x 1.46 = 85,410; 1,170,000 x 0.71 = 830,700; together 2,418,390.
+        (less(d_of_001(), 1, &debits), paid("174004.72", OPTANT_ITEMS)),
+        // 1p at 1.1700 is 1p, x 0.71 = 0.71, so a penny.
+        (with(at::DEBIT_LUMP, 1), paid("198188.61", OPTANT_ITEMS)),
+        (with(at::MODIFICATION, LARGEST_AMOUNT), refused("14 negative")),
+        (with(at::DEBIT_PENSION, LARGEST_AMOUNT), refused("16 award")),
+    ]
+}
+
+fn with_kind(mut block: Block, kind: u64) -> Block {
+    block.put(at::KIND, 2, kind);
+    block
+}
+
+/// The sex and the flag of a Choice Optant, in kind 3 and elsewhere.
+fn of_reading_sex_and_flag_4() -> Vec<(Block, String)> {
+    let refused = |refusal: &str| format!("1 0 refused {refusal}");
+    let sex = |block, code| with_byte_of(block, 14, code);
+    let flags = |block, flags| with_byte_of(block, 10, flags);
+    let pension_only = || born_2008(FEMALE, date(1960, 6, 1), date(2020, 6, 1));
+    vec![
+        (sex(d_of_001(), 0), refused("5 range")),
+        (sex(d_of_001(), 3), refused("5 range")),
+        (sex(d_of_001(), 255), refused("5 range")),
+        // Something that must be zero goes before a range.
+        (with_byte(sex(d_of_001(), 0), 15), refused("4 reserved")),
+        (sex(a_of_001(), 1), refused("4 reserved")),
+        (sex(a_of_001(), 2), refused("4 reserved")),
+        (sex(b_of_003(), 1), refused("4 reserved")),
+        (sex(b_of_003(), 255), refused("4 reserved")),
+        (flags(a_of_001(), 4), refused("4 reserved")),
+        (flags(b_of_003(), 4), refused("4 reserved")),
+        (flags(d_of_003(), 4), refused("4 reserved")),
+        (flags(d_of_001(), 5), refused("4 reserved")),
+        (flags(d_of_001(), 12), refused("4 reserved")),
+        (flags(d_of_001(), 0), refused("4 reserved")),
+        (less(pension_only(), 1, &[(at::LUMP, 1)]), refused("4 reserved")),
+        (less(pension_only(), 1, &[(at::SCHEME_PAYS_LUMP, 1)]), refused("4 reserved")),
+        (less(pension_only(), 1, &[(at::DEBIT_LUMP, 1)]), refused("4 reserved")),
+        (less(d_of_001(), 1, &[(at::LUMP, LARGEST_AMOUNT + 1)]), refused("5 range")),
+    ]
+}
+
+/// Kinds and counts, and what is zero in kind 3.
+fn of_reading_kind_3() -> Vec<(Block, String)> {
+    let refused = |refusal: &str| format!("1 0 refused {refusal}");
+    let with_date = |mut block: Block| {
+        put_line_date(&mut block, 1, date(2034, 5, 1));
+        block
+    };
+    vec![
+        (with_kind(d_of_001(), 0), refused("3 kind")),
+        (with_kind(d_of_001(), 4), refused("3 kind")),
+        (with_kind(d_of_001(), 65_535), refused("3 kind")),
+        (with_kind(d_of_001(), 259), refused("3 kind")),
+        (with_byte_of(d_of_001(), 11, 0), refused("3 kind")),
+        (with_byte_of(d_of_001(), 11, 2), refused("3 kind")),
+        (with_byte_of(d_of_001(), 11, 4), refused("3 kind")),
+        (with_byte(d_of_001(), 15), refused("4 reserved")),
+        (with_byte(d_of_001(), 48), refused("4 reserved")),
+        (with_byte(d_of_001(), 56), refused("4 reserved")),
+        (with_date(d_of_001()), refused("4 reserved")),
+        (with_byte(d_of_001(), 376), refused("4 reserved")),
+    ]
+}
+
+fn of_the_2008_section() -> Vec<(Block, String)> {
+    let by_sex = |sex| of_ages_in_the_2008_section(sex).into_iter().chain(of_deductions_in_the_2008_section(sex));
+    let valued = by_sex(MALE).chain(by_sex(FEMALE)).chain(of_choice_optants());
+    valued.chain(of_reading_sex_and_flag_4()).chain(of_reading_kind_3()).collect()
+}
+
 /// The examples' lines, from the file that the program's test is held to as well.
 fn of_the_notes() -> Vec<(Block, String)> {
     let lines = include_str!("../../examples/expected.txt").lines();
@@ -345,6 +492,7 @@ pub fn try_figures(model: &Model) -> Result<usize, String> {
         of_the_sum().into_iter().chain(of_the_calendar()).chain(of_the_order_of_tests()).chain(of_the_order_of_lines()),
     );
     figures.extend(of_divorced_members().into_iter().chain(of_divorce_debits()).chain(of_reading_divorce_debits()));
+    figures.extend(of_the_2008_section());
     for (block, line) in &figures {
         let block = sealed(block.clone());
         let place: u32 = line.split(' ').next().unwrap().parse().unwrap();

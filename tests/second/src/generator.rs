@@ -43,6 +43,22 @@ impl Block {
         self.get(at::KIND, 2)
     }
 
+    /// What sets its kind apart, which must be a listed one.
+    pub fn rules(&self) -> &'static Kind {
+        Kind::of(self.kind()).unwrap()
+    }
+
+    /// Whether its kind and its flags allow this amount on a line.
+    pub fn takes(&self, field: usize) -> bool {
+        self.rules().takes(field, self.get(at::FLAGS, 1))
+    }
+
+    /// The first and the last key of its table.
+    pub fn keys(&self) -> (i64, i64) {
+        let (_, first, last) = TABLES[table_place(self.kind(), self.get(at::SEX, 1))];
+        (first, last)
+    }
+
     pub fn count(&self) -> usize {
         self.get(at::COUNT, 1) as usize
     }
@@ -89,6 +105,13 @@ impl Block {
                 self.put_amount(start, field, 0);
             }
         }
+    }
+
+    /// Takes away lines 2 to 4 and their divorce debits.
+    pub fn keep_line_1_alone(&mut self) {
+        self.0[at::LINES[1]..at::LINES[3] + at::LINE_LENGTH].fill(0);
+        self.0[at::GROUPS[1]..at::GROUPS[3] + at::GROUP_LENGTH].fill(0);
+        self.put(at::COUNT, 1, 1);
     }
 
     /// Writes the check.
@@ -150,7 +173,7 @@ fn scheme_pays(random: &mut Random, reduced: i128) -> u64 {
     }
 }
 
-/// Everything that both kinds share, but dates and lines.
+/// Everything but dates and lines.
 fn common(random: &mut Random, kind: u64) -> Block {
     let mut block = Block::zeros();
     block.put(at::KIND, 2, kind);
@@ -166,6 +189,10 @@ fn common(random: &mut Random, kind: u64) -> Block {
         block.set_flag(HAS_GMP, true);
         let earliest = day_number(date(2016, 4, 6));
         block.put_day(at::STATE_PENSION, random.at_edges(earliest, last_day()));
+    }
+    if kind == 3 {
+        block.put(at::SEX, 1, random.pick(&[MALE, FEMALE]));
+        block.set_flag(CHOICE_OPTANT, random.one_in(2));
     }
     block
 }
@@ -187,14 +214,29 @@ fn some_birth(random: &mut Random, first_year: i64, last_year: i64) -> Date {
     date_of(random.between(day_number(date(year, 1, 1)), day_number(date(year, 12, 31))))
 }
 
-fn put_dates_kind_1(random: &mut Random, block: &mut Block) {
-    let age = random.at_edges(22, 59);
+/// An age that the block's table has. The deduction of women has another column from 60.
+fn some_age(random: &mut Random, block: &Block) -> i64 {
+    let (first, last) = block.keys();
+    match random.below(8) {
+        0 if last > 60 => random.pick(&[59, 60]),
+        0..=2 => random.between(first, last),
+        _ => random.at_edges(first, last),
+    }
+}
+
+/// Dates of a kind that has a pension age. At leaving the table often has a row as well, and another one.
+fn put_dates_by_age(random: &mut Random, block: &mut Block) {
+    let age = some_age(random, block);
     let birth = some_birth(random, 1900, 2199 - age);
     block.put_date(at::BIRTH, birth);
     let next_birthday = moved_on(birth, age + 1);
     let guarantee = random.at_edges(moved_on(birth, age), (next_birthday - 1).min(last_day()));
     block.put_day(at::GUARANTEE, guarantee);
-    put_leaving(random, block);
+    if random.one_in(2) {
+        block.put_day(at::LEAVING, random.between(moved_on(birth, block.keys().0), guarantee));
+    } else {
+        put_leaving(random, block);
+    }
 }
 
 /// The factors on the first line and the signed total, whether or not it is below zero. Divorce debits are no part of it.
@@ -279,17 +321,26 @@ fn put_total_zero(model: &Model, random: &mut Random, block: &mut Block) {
     block.put_amount(line, at::MODIFICATION, factors.pension as u64 * times);
 }
 
-pub fn acceptable_kind_1(model: &Model, random: &mut Random) -> Block {
-    let mut block = common(random, 1);
-    put_dates_kind_1(random, &mut block);
+fn put_amounts_by_age(random: &mut Random, block: &mut Block) {
     let line = at::LINES[0];
     let factor = block.revaluation();
     for field in at::BENEFITS {
-        block.put_amount(line, field, amount(random, factor));
+        if block.takes(field) {
+            block.put_amount(line, field, amount(random, factor));
+        }
     }
     let (pension, lump) = (block.revalued_pension(line), block.revalued_lump(line));
     block.put_amount(line, at::SCHEME_PAYS, scheme_pays(random, pension));
-    block.put_amount(line, at::SCHEME_PAYS_LUMP, scheme_pays(random, lump));
+    if block.takes(at::SCHEME_PAYS_LUMP) {
+        block.put_amount(line, at::SCHEME_PAYS_LUMP, scheme_pays(random, lump));
+    }
+}
+
+/// A block of kind 1 or 3.
+fn acceptable_by_age(model: &Model, random: &mut Random, kind: u64) -> Block {
+    let mut block = common(random, kind);
+    put_dates_by_age(random, &mut block);
+    put_amounts_by_age(random, &mut block);
     put_modification(model, random, &mut block);
     match random.below(24) {
         0 => put_survivor_at_edge(model, random, &mut block),
@@ -359,7 +410,7 @@ fn put_underpin(model: &Model, random: &mut Random, block: &mut Block) {
     }
 }
 
-pub fn acceptable_kind_2(model: &Model, random: &mut Random) -> Block {
+fn acceptable_kind_2(model: &Model, random: &mut Random) -> Block {
     let mut block = common(random, 2);
     put_dates_kind_2(random, &mut block);
     let factor = block.revaluation();
@@ -384,11 +435,25 @@ pub fn acceptable_kind_2(model: &Model, random: &mut Random) -> Block {
     block
 }
 
-/// A block that is to be paid. The check is not written yet.
-pub fn acceptable(model: &Model, random: &mut Random) -> Block {
-    if random.one_in(2) {
-        acceptable_kind_1(model, random)
-    } else {
+/// A block of this kind that is to be paid. The check is not written yet.
+pub fn acceptable_of(model: &Model, random: &mut Random, kind: u64) -> Block {
+    if kind == 2 {
         acceptable_kind_2(model, random)
+    } else {
+        acceptable_by_age(model, random, kind)
+    }
+}
+
+/// The same of any kind, each as often as the others.
+pub fn acceptable(model: &Model, random: &mut Random) -> Block {
+    let kind = random.pick(&[1, 2, 3]);
+    acceptable_of(model, random, kind)
+}
+
+/// Puts a block that is to be paid in place of one that is not of one of these kinds.
+pub fn make_of_kind(model: &Model, random: &mut Random, block: &mut Block, kinds: &[u64]) {
+    if !kinds.contains(&block.kind()) {
+        let kind = random.pick(kinds);
+        *block = acceptable_of(model, random, kind);
     }
 }

@@ -14,11 +14,15 @@ mod model;
 mod properties;
 mod random;
 mod rules;
+mod section_2008;
+mod tables;
 mod trial;
 
 use library::*;
 use model::*;
 use rules::{Seen, DIVORCE_RULES, RULES};
+use section_2008::SECTION_2008_RULES;
+use std::collections::BTreeMap;
 use std::process::ExitCode;
 use std::time::Instant;
 use trial::*;
@@ -32,61 +36,68 @@ struct Reached {
     sorts: [u64; SORTS.len()],
     /// By number; some numbers have no refusal.
     refusals: [u64; 32],
-    paid: [u64; 3],
-    ages: Vec<u64>,
-    years: Vec<u64>,
-    rules: [u64; RULES.len()],
-    divorce_rules: Vec<u64>,
+    paid: [u64; KINDS.len()],
+    /// By the table's place and the row's key.
+    rows: BTreeMap<(usize, i64), u64>,
+    /// In the order of their names.
+    rules: Vec<u64>,
     longest_line: usize,
+}
+
+fn names_of_rules() -> impl Iterator<Item = &'static str> {
+    let of_cases = RULES.iter().map(|rule| rule.0);
+    of_cases.chain(DIVORCE_RULES.iter().chain(&SECTION_2008_RULES).map(|rule| rule.0))
 }
 
 impl Reached {
     fn count_payment(&mut self, model: &Model, block: &[u8]) {
         let case = case_of(block);
-        self.paid[case.kind as usize] += 1;
+        self.paid[case.kind as usize - 1] += 1;
         for line in case.used() {
-            let key = model.key(&case, line) as usize;
-            if case.kind == 1 {
-                self.ages[key] += 1
-            } else {
-                self.years[key] += 1
-            }
+            *self.rows.entry((table_place(case.kind, case.sex), model.key(&case, line))).or_insert(0) += 1;
         }
     }
 
     fn count_rules(&mut self, model: &Model, block: &[u8], answer: &Result<Payment, Refusal>) {
         let seen = Seen::of(model, block, answer);
-        for (n, (_, stands)) in self.rules.iter_mut().zip(RULES) {
-            *n += stands(&seen.case, answer) as u64;
+        let of_cases = RULES.iter().map(|(_, stands)| stands(&seen.case, answer));
+        let others = DIVORCE_RULES.iter().chain(&SECTION_2008_RULES).map(|(_, stands)| stands(&seen));
+        for (n, stands) in self.rules.iter_mut().zip(of_cases.chain(others)) {
+            *n += stands as u64;
         }
-        for (n, (_, stands)) in self.divorce_rules.iter_mut().zip(DIVORCE_RULES) {
-            *n += stands(&seen) as u64;
-        }
+    }
+
+    /// How often the row of this table that was reached least was reached.
+    fn least_of_rows(&self, place: usize) -> u64 {
+        let (_, first, last) = TABLES[place];
+        (first..=last).map(|key| self.rows.get(&(place, key)).copied().unwrap_or(0)).min().unwrap()
     }
 
     fn enough(&self) -> bool {
         REFUSALS.iter().all(|(number, _)| self.refusals[*number] >= LEAST_REACHED)
-            && self.paid[1..].iter().chain(&self.rules).chain(&self.divorce_rules).all(|&n| n >= LEAST_REACHED)
-            && self.ages[22..].iter().chain(&self.years[1..]).all(|&n| n > 0)
+            && self.paid.iter().chain(&self.rules).all(|&n| n >= LEAST_REACHED)
+            && (0..TABLES.len()).all(|place| self.least_of_rows(place) > 0)
     }
 
     fn print(&self) {
+        let print = |name: &str, n: u64| println!("  {name:<28}{n:>10}");
         for (name, n) in SORTS.iter().zip(self.sorts) {
-            println!("  {name:<28}{n:>10}");
+            print(name, n);
         }
         println!("answers reached (each at least {LEAST_REACHED} times)");
         for (number, name) in REFUSALS {
-            println!("  refusal {number:>2} {name:<17}{:>10}", self.refusals[number]);
+            print(&format!("refusal {number:>2} {name}"), self.refusals[number]);
         }
-        println!("  {:<28}{:>10}", "paid, kind 1", self.paid[1]);
-        println!("  {:<28}{:>10}", "paid, kind 2", self.paid[2]);
-        println!("  {:<28}{:>10}", "each age 22 to 59, at least", self.ages[22..].iter().min().unwrap());
-        println!("  {:<28}{:>10}", "each year 1 to 50, at least", self.years[1..].iter().min().unwrap());
-        let names = RULES.iter().map(|rule| rule.0).chain(DIVORCE_RULES.iter().map(|rule| rule.0));
-        for (name, n) in names.zip(self.rules.iter().chain(&self.divorce_rules)) {
-            println!("  {name:<28}{n:>10}");
+        for (kind, n) in KINDS.iter().zip(self.paid) {
+            print(&format!("paid, kind {}", kind.number), n);
         }
-        println!("  {:<28}{:>10}", "bytes of the longest line", self.longest_line);
+        for (place, (name, _, _)) in TABLES.iter().enumerate() {
+            print(&format!("each row of {name}, at least"), self.least_of_rows(place));
+        }
+        for (name, n) in names_of_rules().zip(&self.rules) {
+            print(name, *n);
+        }
+        print("bytes of the longest line", self.longest_line as u64);
     }
 }
 
@@ -117,8 +128,7 @@ fn wanted(model: &Model, block: &[u8], place: u32, out_len: usize) -> (String, R
 }
 
 fn compare(model: &Model, blocks: u64, seed: u64) -> Result<Reached, String> {
-    let divorce_rules = vec![0; DIVORCE_RULES.len()];
-    let mut reached = Reached { ages: vec![0; 60], years: vec![0; 51], divorce_rules, ..Reached::default() };
+    let mut reached = Reached { rules: vec![0; names_of_rules().count()], ..Reached::default() };
     let mut lent = Lent::new();
     let mut memory = [0; LONGEST_BLOCK + 8];
     for index in 0..blocks {
@@ -187,9 +197,6 @@ fn number(word: &str) -> Result<u64, String> {
 
 fn compare_and_report(blocks: u64, seed: u64, factors: &str) -> Result<(), String> {
     let model = load(factors)?;
-    if model.rows() != (38, 50) {
-        return Err(format!("rows of factors: {:?}", model.rows()));
-    }
     let start = Instant::now();
     let days = figures::step_through_calendar()?;
     let figures = figures::try_figures(&model)?;

@@ -2,6 +2,7 @@
 //! change requests alone.
 //! It is made differently where it can be: dates are day counts, factors are read from text, sums are 128-bit.
 
+use crate::tables;
 use std::collections::BTreeMap;
 
 pub const BLOCK_LENGTH: usize = 512;
@@ -10,6 +11,58 @@ pub const LEAST_BUFFER: usize = 256;
 pub const LARGEST_AMOUNT: u64 = 1_000_000_000;
 pub const TRANSFERRED_IN: u64 = 1;
 pub const HAS_GMP: u64 = 2;
+pub const CHOICE_OPTANT: u64 = 4;
+pub const MALE: u64 = 1;
+pub const FEMALE: u64 = 2;
+
+/// What sets a kind apart.
+pub struct Kind {
+    pub number: u64,
+    pub most_lines: u64,
+    /// The flags that it may have.
+    pub flags: u64,
+    /// None where its lines are dated, each on a pension age of its own.
+    pub pension_age: Option<i64>,
+    /// The flag that a lump sum and the debits on it ask for, 0 where they ask for none; none where they are not allowed.
+    pub lump_sum: Option<u64>,
+    pub has_sex: bool,
+}
+
+/// The 1995 section with pension age 60, the 2015 scheme and the 2008 section.
+pub const KINDS: [Kind; 3] = [
+    Kind { number: 1, most_lines: 1, flags: HAS_GMP, pension_age: Some(60), lump_sum: Some(0), has_sex: false },
+    Kind {
+        number: 2,
+        most_lines: 4,
+        flags: HAS_GMP | TRANSFERRED_IN,
+        pension_age: None,
+        lump_sum: None,
+        has_sex: false,
+    },
+    Kind {
+        number: 3,
+        most_lines: 1,
+        flags: HAS_GMP | CHOICE_OPTANT,
+        pension_age: Some(65),
+        lump_sum: Some(CHOICE_OPTANT),
+        has_sex: true,
+    },
+];
+
+impl Kind {
+    pub fn of(number: u64) -> Option<&'static Kind> {
+        KINDS.iter().find(|kind| kind.number == number)
+    }
+
+    /// Whether a line of a case with these flags may have this amount.
+    pub fn takes(&self, field: usize, flags: u64) -> bool {
+        match field {
+            at::MODIFICATION => self.pension_age.is_some(),
+            _ if at::LUMP_SUM.contains(&field) => self.lump_sum.map_or(false, |asked| flags & asked == asked),
+            _ => true,
+        }
+    }
+}
 
 /// A refusal is its number.
 pub type Refusal = usize;
@@ -48,6 +101,7 @@ pub mod at {
     pub const FLAGS: usize = 10;
     pub const COUNT: usize = 11;
     pub const SERVICE: usize = 12;
+    pub const SEX: usize = 14;
     pub const BIRTH: usize = 16;
     pub const LEAVING: usize = 20;
     pub const GUARANTEE: usize = 24;
@@ -93,8 +147,8 @@ pub mod at {
         DEBIT_SURVIVOR,
         DEBIT_LUMP,
     ];
-    /// The amounts that are zero in kind 2.
-    pub const ONLY_KIND_1: [usize; 4] = [LUMP, MODIFICATION, SCHEME_PAYS_LUMP, DEBIT_LUMP];
+    /// The lump sum and the debits on it.
+    pub const LUMP_SUM: [usize; 3] = [LUMP, SCHEME_PAYS_LUMP, DEBIT_LUMP];
     /// The amounts that are zero in lines 2 to 4.
     pub const ONLY_LINE_1: [usize; 2] = [ADDITIONAL, DEPENDANT];
 
@@ -224,6 +278,7 @@ pub struct Case {
     pub flags: u64,
     pub count: u64,
     pub service: u64,
+    pub sex: u64,
     pub birth: Date,
     pub leaving: Date,
     pub guarantee: Date,
@@ -238,6 +293,10 @@ pub struct Case {
 impl Case {
     pub fn has(&self, flag: u64) -> bool {
         self.flags & flag != 0
+    }
+
+    pub fn pension_age(&self) -> Option<i64> {
+        Kind::of(self.kind).and_then(|kind| kind.pension_age)
     }
 
     /// The lines that the count covers.
@@ -287,6 +346,7 @@ pub fn case_of(block: &[u8]) -> Case {
         flags: number_at(block, at::FLAGS, 1),
         count: number_at(block, at::COUNT, 1),
         service: number_at(block, at::SERVICE, 2),
+        sex: number_at(block, at::SEX, 1),
         birth: date_at(block, at::BIRTH),
         leaving: date_at(block, at::LEAVING),
         guarantee: date_at(block, at::GUARANTEE),
@@ -309,6 +369,7 @@ pub fn named_bytes() -> [bool; BLOCK_LENGTH] {
         name(byte, 1);
     }
     name(at::SERVICE, 2);
+    name(at::SEX, 1);
     for day in [at::BIRTH, at::LEAVING, at::GUARANTEE, at::STATE_PENSION] {
         name(day, 4);
     }
@@ -359,9 +420,24 @@ pub fn revalued(amount: u64, revaluation: u64) -> i128 {
     rounded(amount as i128 * revaluation as i128, 10_000)
 }
 
+/// Rows of factors by their key: age last birthday at the guarantee date, or years ahead.
+pub type Table = BTreeMap<i64, Factors>;
+
+/// The tables by their names in figures/factors.txt, each with its first and its last key.
+pub const TABLES: [(&str, i64, i64); 4] = [("1995", 22, 59), ("2008m", 18, 64), ("2008f", 18, 64), ("2015", 1, 50)];
+
+/// The place in `TABLES` of the table for a case of this kind and sex.
+pub fn table_place(kind: u64, sex: u64) -> usize {
+    match (kind, sex) {
+        (1, _) => 0,
+        (2, _) => 3,
+        (_, MALE) => 1,
+        _ => 2,
+    }
+}
+
 pub struct Model {
-    by_age: BTreeMap<i64, Factors>,
-    by_years: BTreeMap<i64, Factors>,
+    tables: [Table; 4],
     unnamed: Vec<usize>,
 }
 
@@ -369,57 +445,58 @@ impl Model {
     /// The tables as figures/factors.txt prints them.
     pub fn from_text(text: &str) -> Result<Model, String> {
         let named = named_bytes();
-        let mut model = Model {
-            by_age: BTreeMap::new(),
-            by_years: BTreeMap::new(),
-            unnamed: (0..BLOCK_LENGTH).filter(|&i| !named[i]).collect(),
-        };
+        let unnamed = (0..BLOCK_LENGTH).filter(|&i| !named[i]).collect();
+        let mut model = Model { tables: Default::default(), unnamed };
         for row in text.lines().filter(|row| !row.starts_with('#') && !row.trim().is_empty()) {
             model.take_row(row).ok_or_else(|| format!("not a row of factors: {row}"))?;
         }
+        model.check_tables()?;
         Ok(model)
+    }
+
+    /// Every row must be there, and no other. TV3 and TV4 must be those that are copied from 001 here.
+    fn check_tables(&self) -> Result<(), String> {
+        for ((name, first, last), table) in TABLES.iter().zip(&self.tables) {
+            if !table.keys().copied().eq(*first..=*last) {
+                return Err(format!("rows of factors, {name}: not {first} to {last}"));
+            }
+        }
+        for (sex, copied) in [(MALE, tables::men_2008()), (FEMALE, tables::women_2008())] {
+            let place = table_place(3, sex);
+            if self.tables[place] != copied {
+                return Err(format!("rows of factors, {}: not as 001 prints them", TABLES[place].0));
+            }
+        }
+        Ok(())
     }
 
     fn take_row(&mut self, row: &str) -> Option<()> {
         let words: Vec<&str> = row.split_whitespace().collect();
         let key: i64 = words.get(1)?.parse().ok()?;
-        let factors: Option<Vec<i128>> = words[2..].iter().map(|word| hundredths(word)).collect();
-        let earlier = match (words[0], &factors?[..]) {
-            ("1995", &[pension, lump, survivor, deduct]) => {
-                self.by_age.insert(key, Factors { pension, lump, survivor, deduct })
-            }
-            ("2015", &[pension, survivor]) => {
-                self.by_years.insert(key, Factors { pension, survivor, ..Factors::default() })
-            }
+        let place = TABLES.iter().position(|(name, _, _)| *name == words[0])?;
+        let figures: Option<Vec<i128>> = words[2..].iter().map(|word| hundredths(word)).collect();
+        let factors = match (place, &figures?[..]) {
+            (0..=2, &[pension, lump, survivor, deduct]) => Factors { pension, lump, survivor, deduct },
+            (3, &[pension, survivor]) => Factors { pension, survivor, ..Factors::default() },
             _ => return None,
         };
-        if earlier.is_some() {
-            None
-        } else {
-            Some(())
-        }
+        self.tables[place].insert(key, factors).is_none().then_some(())
     }
 
     pub fn unnamed_bytes(&self) -> &[usize] {
         &self.unnamed
     }
 
-    pub fn rows(&self) -> (usize, usize) {
-        (self.by_age.len(), self.by_years.len())
-    }
-
-    /// The key into the kind's table: age for kind 1, years ahead of the line for kind 2.
+    /// The key into the case's table: age where the kind has a pension age, else years ahead of the line.
     pub fn key(&self, case: &Case, line: &Line) -> i64 {
-        if case.kind == 1 {
-            age(case.birth, case.guarantee)
-        } else {
-            years_ahead(case.guarantee, line.date)
+        match case.pension_age() {
+            Some(_) => age(case.birth, case.guarantee),
+            None => years_ahead(case.guarantee, line.date),
         }
     }
 
     pub fn factors(&self, case: &Case, line: &Line) -> Option<Factors> {
-        let table = if case.kind == 1 { &self.by_age } else { &self.by_years };
-        table.get(&self.key(case, line)).copied()
+        self.tables[table_place(case.kind, case.sex)].get(&self.key(case, line)).copied()
     }
 
     pub fn read(&self, block: &[u8]) -> Result<Case, Refusal> {
@@ -430,11 +507,10 @@ impl Model {
             return Err(2);
         }
         let case = case_of(block);
-        if !kind_allowed(&case) {
-            Err(3)
-        } else if self.unnamed.iter().any(|&i| block[i] != 0) || reserved_broken(block, &case) {
+        let kind = Kind::of(case.kind).filter(|kind| (1..=kind.most_lines).contains(&case.count)).ok_or(3usize)?;
+        if self.unnamed.iter().any(|&i| block[i] != 0) || reserved_broken(block, &case, kind) {
             Err(4)
-        } else if range_broken(&case) {
+        } else if range_broken(&case, kind) {
             Err(5)
         } else {
             Ok(case)
@@ -475,7 +551,7 @@ impl Model {
 }
 
 /// A number with two decimals, in hundredths.
-fn hundredths(word: &str) -> Option<i128> {
+pub fn hundredths(word: &str) -> Option<i128> {
     let (whole, decimals) = word.split_once('.')?;
     if decimals.len() != 2 {
         return None;
@@ -483,36 +559,28 @@ fn hundredths(word: &str) -> Option<i128> {
     Some(100 * whole.parse::<u32>().ok()? as i128 + decimals.parse::<u32>().ok()? as i128)
 }
 
-fn kind_allowed(case: &Case) -> bool {
-    match case.kind {
-        1 => case.count == 1,
-        2 => (1..=4).contains(&case.count),
-        _ => false,
-    }
-}
-
 /// Every must-be-zero rule but that of the unnamed bytes.
-fn reserved_broken(block: &[u8], case: &Case) -> bool {
+fn reserved_broken(block: &[u8], case: &Case, kind: &Kind) -> bool {
     let nonzero = |offset: usize, width: usize| number_at(block, offset, width) != 0;
     let filled = |start: usize, length: usize| block[start..start + length].iter().any(|&byte| byte != 0);
     let count = case.count as usize;
     let past_count = at::LINES[count..].iter().any(|&start| filled(start, at::LINE_LENGTH))
         || at::GROUPS[count..].iter().any(|&start| filled(start, at::GROUP_LENGTH));
-    let of_kind = if case.kind == 1 {
-        case.has(TRANSFERRED_IN) || nonzero(at::CONTRIBUTIONS, 8) || nonzero(at::LINES[0], 4)
-    } else {
-        at::LINES.iter().any(|&start| at::ONLY_KIND_1.iter().any(|&field| nonzero(at::amount(start, field), 8)))
+    let not_taken = |start: usize| {
+        at::AMOUNTS.iter().any(|&field| !kind.takes(field, case.flags) && nonzero(at::amount(start, field), 8))
     };
-    case.flags & !(TRANSFERRED_IN | HAS_GMP) != 0
+    case.flags & !kind.flags != 0
+        || (!kind.has_sex && case.sex != 0)
         || past_count
         || (!case.has(HAS_GMP) && nonzero(at::STATE_PENSION, 4))
         || (!case.has(TRANSFERRED_IN) && nonzero(at::TRANSFER_IN, 8))
-        || of_kind
+        || (kind.pension_age.is_some() && (nonzero(at::CONTRIBUTIONS, 8) || nonzero(at::LINES[0] + at::DATE, 4)))
+        || at::LINES.into_iter().any(not_taken)
         || case.lines[1..].iter().any(|line| line.additional != 0 || line.dependant != 0)
 }
 
 /// Dates that must be zero were held to that by the rule before, so only the others are tried here.
-fn range_broken(case: &Case) -> bool {
+fn range_broken(case: &Case, kind: &Kind) -> bool {
     let amounts_broken = |line: &Line| {
         let Line { pension, additional, survivor, dependant, .. } = *line;
         let Line { lump, modification, scheme_pays, scheme_pays_lump, .. } = *line;
@@ -524,12 +592,13 @@ fn range_broken(case: &Case) -> bool {
     case.number == 0
         || !(1..=4).contains(&case.status)
         || !(1..=3).contains(&case.receiver)
+        || (kind.has_sex && ![MALE, FEMALE].contains(&case.sex))
         || !(10_000..=100_000).contains(&case.revaluation)
         || [case.avc, case.transfer_in, case.contributions].iter().any(|&a| a > LARGEST_AMOUNT)
         || case.lines.iter().any(amounts_broken)
         || ![case.birth, case.leaving, case.guarantee].iter().all(|&d| is_real(d))
         || (case.has(HAS_GMP) && !is_real(case.state_pension))
-        || (case.kind == 2 && !case.used().iter().all(|line| is_real(line.date)))
+        || (kind.pension_age.is_none() && !case.used().iter().all(|line| is_real(line.date)))
 }
 
 fn dates_broken(case: &Case) -> bool {
@@ -555,11 +624,10 @@ pub fn gmp_to_refer(case: &Case) -> bool {
 }
 
 fn past_pension_age(case: &Case) -> bool {
-    if case.kind == 1 {
-        age(case.birth, case.guarantee) >= 60
-    } else {
-        let guarantee = day_number(case.guarantee);
-        case.used().iter().any(|line| day_number(line.date) <= guarantee)
+    let guarantee = day_number(case.guarantee);
+    match case.pension_age() {
+        Some(years) => age(case.birth, case.guarantee) >= years,
+        None => case.used().iter().any(|line| day_number(line.date) <= guarantee),
     }
 }
 

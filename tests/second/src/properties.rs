@@ -103,7 +103,7 @@ fn factor_of(factors: &Factors, field: usize) -> i128 {
 
 fn draw_entry(model: &Model, random: &mut Random, block: &Block, fields: &[usize]) -> Option<Entry> {
     let field = random.pick(fields);
-    if at::ONLY_KIND_1.contains(&field) && block.kind() == 2 {
+    if !block.takes(field) {
         return None;
     }
     let start = if at::ONLY_LINE_1.contains(&field) { at::LINES[0] } else { block.some_line(random) };
@@ -148,8 +148,9 @@ fn close(model: &Model, smaller: &Block, entry: &Entry, extra: i128, difference:
     (difference * 1_000_000 - exact).abs() <= (factor + 100) * 10_000
 }
 
-/// A pair's entry, and whether the larger has a debit value.
+/// A pair's kind and entry, and whether the larger has a debit value.
 struct Tried {
+    kind: u64,
     entry: Entry,
     divorced: bool,
 }
@@ -185,7 +186,7 @@ fn try_pair(model: &Model, random: &mut Random, lent: &mut Lent, fields: &[usize
     if !benefit && after.paid > before.paid {
         return failed("paid more for a larger reduction");
     }
-    Ok(Tried { entry, divorced: debit_value(&sums[1]) > 0 })
+    Ok(Tried { kind: smaller.kind(), entry, divorced: debit_value(&sums[1]) > 0 })
 }
 
 /// Every order of so many things; the first is the one in which they stand.
@@ -206,7 +207,7 @@ fn orders(count: usize) -> Vec<Vec<usize>> {
 /// An accepted case of kind 2 with more than one line, each of which can stand in any place and can be a case's only line.
 fn draw_lines(model: &Model, random: &mut Random) -> Block {
     loop {
-        let mut block = acceptable_kind_2(model, random);
+        let mut block = acceptable_of(model, random, 2);
         let line_1 = at::LINES[0];
         for field in at::ONLY_LINE_1 {
             block.put_amount(line_1, field, 0);
@@ -242,9 +243,7 @@ fn in_order(block: &Block, order: &[usize]) -> Block {
 /// The block with one of its lines alone, of a member born early enough for it to be line 1.
 fn with_line_alone(block: &Block, place: usize) -> Block {
     let mut alone = in_order(block, &[place]);
-    alone.0[at::LINES[1]..at::LINES[3] + at::LINE_LENGTH].fill(0);
-    alone.0[at::GROUPS[1]..at::GROUPS[3] + at::GROUP_LENGTH].fill(0);
-    alone.put(at::COUNT, 1, 1);
+    alone.keep_line_1_alone();
     let latest = latest_birth(alone.day(at::LINES[0] + at::DATE));
     alone.put_day(at::BIRTH, latest.min(alone.day(at::BIRTH)));
     alone.seal();
@@ -366,36 +365,38 @@ fn try_blocks(model: &Model, random: &mut Random, lent: &mut Lent, rounds: u64) 
     Ok(tried)
 }
 
-/// How many pairs have divorce debits, and how often the entry that was drawn least was drawn.
+/// How many pairs have divorce debits and are of each kind, and how often the entry that was drawn least was drawn.
 struct Pairs {
     divorced: u64,
+    of_kind: [u64; KINDS.len()],
     least_drawn: u64,
 }
 
-/// How many entries a case may have in these fields: four to a field where every line may have it, else one.
-fn entries_of(fields: &[usize]) -> usize {
-    let on_every_line = |field: &&usize| !at::ONLY_LINE_1.contains(field) && !at::ONLY_KIND_1.contains(field);
-    fields.len() + 3 * fields.iter().filter(on_every_line).count()
+/// How many entries a case of this kind may have in these fields: one to a line in a field that every line may have, else one.
+fn entries_of(kind: &Kind, fields: &[usize]) -> u64 {
+    let taken = fields.iter().filter(|field| kind.takes(**field, kind.flags));
+    taken.map(|field| if at::ONLY_LINE_1.contains(field) { 1 } else { kind.most_lines }).sum()
 }
 
-/// Tries so many pairs that differ in one of these fields. Each entry that a case may have there must be drawn as often as
-/// each rule must be reached.
+/// Tries so many pairs that differ in one of these fields. Each entry that a case of each kind may have there must be drawn as
+/// often as each rule must be reached.
 fn try_pairs(model: &Model, pairs: u64, seed: u64, stream: u64, fields: &[usize]) -> Result<Pairs, String> {
     let lent = &mut Lent::new();
-    let mut drawn: BTreeMap<(usize, usize), u64> = BTreeMap::new();
+    let mut drawn: BTreeMap<(u64, usize, usize), u64> = BTreeMap::new();
     let mut divorced = 0;
     for index in 0..pairs {
         let random = &mut Random::new(seed, stream, index);
         let tried = try_pair(model, random, lent, fields).map_err(|e| format!("{e}; seed {seed}, pair {index}"))?;
-        *drawn.entry((tried.entry.start, tried.entry.field)).or_insert(0) += 1;
+        *drawn.entry((tried.kind, tried.entry.start, tried.entry.field)).or_insert(0) += 1;
         divorced += tried.divorced as u64;
     }
-    let (entries, found) = (entries_of(fields), drawn.len());
-    let least_drawn = *drawn.values().min().unwrap();
+    let entries: u64 = KINDS.iter().map(|kind| entries_of(kind, fields)).sum();
+    let (found, least_drawn) = (drawn.len() as u64, *drawn.values().min().unwrap());
     if found != entries || least_drawn < LEAST_REACHED {
         return Err(format!("{found} of {entries} entries drawn, one of them {least_drawn} times; seed {seed}"));
     }
-    Ok(Pairs { divorced, least_drawn })
+    let of = |kind: &Kind| drawn.iter().filter(|(entry, _)| entry.0 == kind.number).map(|(_, n)| n).sum();
+    Ok(Pairs { divorced, of_kind: std::array::from_fn(|place| of(&KINDS[place])), least_drawn })
 }
 
 fn try_orders_of_many(model: &Model, cases: u64, seed: u64) -> Result<u64, String> {
@@ -416,8 +417,10 @@ pub fn try_all(model: &Model, blocks: u64, seed: u64) -> Result<Vec<(&'static st
         ("pairs, larger reduction", 5, &at::REDUCTIONS[..]),
         ("pairs, larger divorce debit", 6, &at::DIVORCE[..]),
     ] {
-        let Pairs { divorced, least_drawn } = try_pairs(model, pairs, seed, stream, fields)?;
-        tried.extend([(name, pairs), ("  with divorce debits", divorced), ("  of each entry, at least", least_drawn)]);
+        let Pairs { divorced, of_kind, least_drawn } = try_pairs(model, pairs, seed, stream, fields)?;
+        tried.extend([(name, pairs), ("  with divorce debits", divorced)]);
+        tried.extend(["  of kind 1", "  of kind 2", "  of kind 3"].into_iter().zip(of_kind));
+        tried.push(("  of each entry, at least", least_drawn));
     }
     tried.push(("lines in another order", try_orders_of_many(model, (blocks / 50).max(1_000), seed)?));
     let (random, lent) = (&mut Random::new(seed, 3, 0), &mut Lent::new());

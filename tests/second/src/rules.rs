@@ -1,4 +1,5 @@
 //! Rules that the counts of refusals and of rows do not show as reached; those with an edge, at both sides of it.
+//! Those of the 2008 section stand in a file of their own.
 
 use crate::generator::Block;
 use crate::model::*;
@@ -6,7 +7,7 @@ use crate::model::*;
 type Answer = Result<Payment, Refusal>;
 
 /// A rule's name, and whether a block with this case and this answer falls under it.
-pub const RULES: [(&str, fn(&Case, &Answer) -> bool); 26] = [
+pub const RULES: [(&str, fn(&Case, &Answer) -> bool); 28] = [
     ("born 29 Feb, aged at 27 Feb", |case, answer| aged(case, 27) && answer.is_ok()),
     ("born 29 Feb, aged at 28 Feb", |case, answer| aged(case, 28) && answer.is_ok()),
     ("65 on 28 Feb, line on 27 Feb", |case, answer| aged_65(case, 27) && matches!(answer, Err(6)) && alone(case)),
@@ -20,10 +21,12 @@ pub const RULES: [(&str, fn(&Case, &Answer) -> bool); 26] = [
     ("underpin 1p above gross", |case, answer| flagged(case) && holds(answer, |p| p.underpin == p.gross + 1)),
     ("underpin above gross alone", |_, answer| holds(answer, |p| underpin_tops(p, 0) && !underpin_tops(p, p.avc))),
     ("underpin above gross and AVC", |_, answer| holds(answer, |p| p.avc > 0 && underpin_tops(p, p.avc))),
-    ("10 met, kind 1, day before", |case, answer| to_refer(case, answer, 10) && at_60th_birthday(case, -1)),
-    ("10 met, kind 1, on the day", |case, answer| to_refer(case, answer, 11) && at_60th_birthday(case, 0)),
+    ("10 met, kind 1, day before", |case, answer| to_refer(case, answer, 10) && at_pension_age(case, 1, -1)),
+    ("10 met, kind 1, on the day", |case, answer| to_refer(case, answer, 11) && at_pension_age(case, 1, 0)),
     ("10 met, kind 2, day before", |case, answer| to_refer(case, answer, 10) && at_first_due(case, -1)),
     ("10 met, kind 2, on the day", |case, answer| to_refer(case, answer, 11) && at_first_due(case, 0)),
+    ("10 met, kind 3, day before", |case, answer| to_refer(case, answer, 10) && at_pension_age(case, 3, -1)),
+    ("10 met, kind 3, on the day", |case, answer| to_refer(case, answer, 11) && at_pension_age(case, 3, 0)),
     ("two lines, paid", |case, answer| case.count == 2 && answer.is_ok()),
     ("lines 2, 3 a day apart, paid", |case, answer| answer.is_ok() && days_apart(case, 1) == Some(1)),
     ("lines 2, 3 alike, 17", |case, answer| *answer == Err(17) && days_apart(case, 1) == Some(0) && falls(case, 2)),
@@ -71,7 +74,7 @@ pub const DIVORCE_RULES: [(&str, fn(&Seen) -> bool); 46] = [
     ("debit lump sum 1p more, 5", |seen| above_largest(seen, 2)),
     ("debit on the last line, paid", |seen| seen.paid() && last_line(seen)),
     ("debit past the count, 4", |seen| at::GROUPS.iter().any(|&group| past_count(seen, group))),
-    ("debit lump sum, kind 1, paid", |seen| seen.paid() && seen.case.lines[0].debit_lump > 0),
+    ("debit lump sum, kind 1, paid", |seen| seen.paid() && seen.case.kind == 1 && seen.case.lines[0].debit_lump > 0),
     ("debit lump sum, kind 2, 4", |seen| at::GROUPS.iter().any(|&group| lump_in_kind_2(seen, group))),
     ("byte 352 filled, paid", |seen| seen.paid() && seen.block[352] != 0),
     ("byte 447 filled, 4", |seen| seen.alone(4, 447, 1)),
@@ -88,7 +91,7 @@ pub const DIVORCE_RULES: [(&str, fn(&Seen) -> bool); 46] = [
 ];
 
 /// Whether the first is 29 February and the second this day of a common year.
-fn from_leap_day(first: Date, second: Date, month: i64, day: i64) -> bool {
+pub fn from_leap_day(first: Date, second: Date, month: i64, day: i64) -> bool {
     let common = !is_real(date(second.year, 2, 29));
     (first.month, first.day) == (2, 29) && common && (second.month, second.day) == (month, day)
 }
@@ -147,9 +150,10 @@ fn to_refer(case: &Case, answer: &Answer, refusal: Refusal) -> bool {
     matches!(answer, Err(found) if *found == refusal) && gmp_to_refer(case)
 }
 
-/// Whether the guarantee date lies so many days after the 60th birthday.
-fn at_60th_birthday(case: &Case, days: i64) -> bool {
-    case.kind == 1 && day_number(case.guarantee) == moved_on(case.birth, 60) + days
+/// Whether the case is of this kind and its guarantee date lies so many days after the birthday on which pension age is reached.
+fn at_pension_age(case: &Case, kind: u64, days: i64) -> bool {
+    let on_that_day = |years| day_number(case.guarantee) == moved_on(case.birth, years) + days;
+    case.kind == kind && case.pension_age().map_or(false, on_that_day)
 }
 
 /// Whether the guarantee date lies so many days after the earliest date of a line.
@@ -160,7 +164,7 @@ fn at_first_due(case: &Case, days: i64) -> bool {
 
 /// A block with its case and its answer. The sums are there where it is paid or given refusal 13, 14 or 16.
 pub struct Seen<'a> {
-    model: &'a Model,
+    pub model: &'a Model,
     block: &'a [u8],
     pub case: Case,
     answer: &'a Answer,
@@ -178,16 +182,16 @@ impl Seen<'_> {
         Seen { model, block, case, answer, sums }
     }
 
-    fn paid(&self) -> bool {
+    pub fn paid(&self) -> bool {
         self.answer.is_ok()
     }
 
-    fn refused(&self, refusal: Refusal) -> bool {
+    pub fn refused(&self, refusal: Refusal) -> bool {
         *self.answer == Err(refusal)
     }
 
     /// The signed total before any divorce debit.
-    fn total(&self) -> Option<i128> {
+    pub fn total(&self) -> Option<i128> {
         self.sums.as_ref().map(signed_total)
     }
 
@@ -197,6 +201,10 @@ impl Seen<'_> {
 
     fn debit_value(&self) -> i128 {
         self.sums.as_ref().map_or(0, debit_value)
+    }
+
+    pub fn gross(&self) -> i128 {
+        self.first_value() - self.debit_value()
     }
 
     fn debit_total(&self) -> i128 {
@@ -218,22 +226,28 @@ impl Seen<'_> {
         self.case.used().iter().flat_map(Line::divorce_debits).any(|debit| debit * revaluation % 10_000 == over)
     }
 
-    /// Whether these bytes are filled, and the block is refused so for them alone.
-    fn alone(&self, refusal: Refusal, offset: usize, width: usize) -> bool {
-        if !self.refused(refusal) || self.block[offset..offset + width].iter().all(|&byte| byte == 0) {
+    /// Whether the block is refused so, and with this change made to it would be read.
+    pub fn but_for(&self, refusal: Refusal, change: impl FnOnce(&mut Block)) -> bool {
+        if !self.refused(refusal) {
             return false;
         }
-        let mut without = Block(self.block.try_into().unwrap());
-        without.0[offset..offset + width].fill(0);
-        without.seal();
-        self.model.read(&without.0).is_ok()
+        let mut changed = Block(self.block.try_into().unwrap());
+        change(&mut changed);
+        changed.seal();
+        self.model.read(&changed.0).is_ok()
+    }
+
+    /// Whether these bytes are filled, and the block is refused so for them alone.
+    pub fn alone(&self, refusal: Refusal, offset: usize, width: usize) -> bool {
+        let filled = self.block[offset..offset + width].iter().any(|&byte| byte != 0);
+        filled && self.but_for(refusal, |block| block.0[offset..offset + width].fill(0))
     }
 }
 
 /// Whether the gross value would be another if only the difference were rounded.
 fn differs_as_one(seen: &Seen) -> bool {
     let difference = seen.total().unwrap_or(0) - seen.debit_total();
-    (difference + 50).div_euclid(100) != seen.first_value() - seen.debit_value()
+    (difference + 50).div_euclid(100) != seen.gross()
 }
 
 /// Whether the debit value would be another if each line's were rounded.
@@ -299,11 +313,10 @@ fn lump_in_kind_2(seen: &Seen, group: usize) -> bool {
 /// Whether the underpin is above the gross value and would not be above the first value.
 fn underpin_decides(seen: &Seen) -> bool {
     let first = seen.first_value();
-    flagged(&seen.case) && seen.underpin() > first - seen.debit_value() && seen.underpin() <= first
+    flagged(&seen.case) && seen.underpin() > seen.gross() && seen.underpin() <= first
 }
 
 /// By how many pence the underpin of a case with a debit value is above the gross value.
 fn underpin_above_gross(seen: &Seen) -> Option<i128> {
-    let gross = seen.first_value() - seen.debit_value();
-    (flagged(&seen.case) && seen.debit_value() > 0).then_some(seen.underpin() - gross)
+    (flagged(&seen.case) && seen.debit_value() > 0).then_some(seen.underpin() - seen.gross())
 }

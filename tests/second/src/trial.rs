@@ -145,7 +145,7 @@ fn related_date(random: &mut Random, block: &Block) -> Date {
     }
     let from = random.pick(&[at::BIRTH, at::LEAVING, at::GUARANTEE, at::LINES[0]]);
     let any = random.between(-70, 70);
-    let years = random.pick(&[0, 22, 50, 60, 65, -22, -50, -60, -65, any]);
+    let years = random.pick(&[0, 18, 22, 50, 60, 65, -18, -22, -50, -60, -65, any]);
     let day = moved_on(block.get_date(from), years) + random.between(-1, 1);
     date_of(day.clamp(first_day() - 1, last_day() + 1))
 }
@@ -155,10 +155,10 @@ fn fields_redrawn(model: &Model, random: &mut Random) -> Trial {
     let mut block = acceptable(model, random);
     for _ in 0..random.between(1, 6) {
         let line = block.some_line(random);
-        match random.below(10) {
-            0 => block.put(at::KIND, 2, random.pick(&[1, 2, 2, 3])),
+        match random.below(11) {
+            0 => block.put(at::KIND, 2, random.pick(&[1, 2, 3, 4])),
             1 => block.put(at::COUNT, 1, random.below(6)),
-            2 => block.put(at::FLAGS, 1, random.below(5)),
+            2 => block.put(at::FLAGS, 1, random.below(9)),
             3 => block.put(at::STATUS + random.below(2) as usize, 1, random.below(6)),
             4 => block.put(at::SERVICE, 2, random.below(5)),
             5 => block.put(at::REVALUATION, 4, random.pick(&[9_999, 10_000, 20_000, 100_000, 100_001])),
@@ -171,6 +171,7 @@ fn fields_redrawn(model: &Model, random: &mut Random) -> Trial {
                 let day = related_date(random, &block);
                 block.put_date(line + at::DATE, day);
             }
+            8 => block.put(at::SEX, 1, random.below(4)),
             _ => {
                 let amount = random.pick(&[0, 1, 99, LARGEST_AMOUNT, LARGEST_AMOUNT + 1, 123_456]);
                 block.put_amount(line, random.pick(&at::AMOUNTS), amount);
@@ -190,7 +191,7 @@ fn random_bytes(random: &mut Random) -> Trial {
         return Trial::of(6, &block, None);
     }
     if random.one_in(2) {
-        block.put(at::KIND, 2, random.between(1, 2) as u64);
+        block.put(at::KIND, 2, random.between(1, 3) as u64);
         block.put(at::COUNT, 1, random.between(1, 4) as u64);
     }
     block.seal();

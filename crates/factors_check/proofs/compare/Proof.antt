@@ -7,10 +7,10 @@ use Rattle.factors_check.proofs.compare.Statement.{statement}
 use Rattle.factors_check.proofs.compare.Tie as tie
 
 abbrev Inv-loop : tie.InvT-loop
-Inv-loop s table first t₀ at₀ t at = Unit {0}
+Inv-loop s table mark first t₀ at₀ t at = Unit {0}
 
 abbrev μ-loop : tie.MeasureT-loop
-μ-loop s table first t₀ at₀ t at = length s - at
+μ-loop s table mark first t₀ at₀ t at = length s - at
 
 pub compare-spec : {M : Type 1} → statement M
 compare-spec =

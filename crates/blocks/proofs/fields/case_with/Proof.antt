@@ -6,14 +6,15 @@ use Rattle.blocks.proofs.fields.case_with.Tie as tie
 
 returns : tie.Need-returns
 returns c =
-    let args = c .before .before .before .before .before .before .before .before .before .before .before .before .before .before .before .before .args in
-    let u16-at = c .before .before .before .before .before .before .before .before .before .before .before .before .before .before .u16-at in
-    let u32-at = c .before .before .before .before .before .before .before .before .before .before .before .before .before .u32-at in
-    let u8-at = c .before .before .before .before .before .before .before .before .before .before .before .before .u8-at in
-    let u8-at2 = c .before .before .before .before .before .before .before .before .before .before .before .u8-at2 in
-    let u8-at3 = c .before .before .before .before .before .before .before .before .before .before .u8-at3 in
-    let u8-at4 = c .before .before .before .before .before .before .before .before .before .u8-at4 in
-    let u16-at2 = c .before .before .before .before .before .before .before .before .u16-at2 in
+    let args = c .before .before .before .before .before .before .before .before .before .before .before .before .before .before .before .before .before .args in
+    let u16-at = c .before .before .before .before .before .before .before .before .before .before .before .before .before .before .before .u16-at in
+    let u32-at = c .before .before .before .before .before .before .before .before .before .before .before .before .before .before .u32-at in
+    let u8-at = c .before .before .before .before .before .before .before .before .before .before .before .before .before .u8-at in
+    let u8-at2 = c .before .before .before .before .before .before .before .before .before .before .before .before .u8-at2 in
+    let u8-at3 = c .before .before .before .before .before .before .before .before .before .before .before .u8-at3 in
+    let u8-at4 = c .before .before .before .before .before .before .before .before .before .before .u8-at4 in
+    let u16-at2 = c .before .before .before .before .before .before .before .before .before .u16-at2 in
+    let u8-at5 = c .before .before .before .before .before .before .before .before .u8-at5 in
     let date-at = c .before .before .before .before .before .before .before .date-at in
     let date-at2 = c .before .before .before .before .before .before .date-at2 in
     let date-at3 = c .before .before .before .before .before .date-at3 in
@@ -31,6 +32,7 @@ returns c =
       flags = u8-at3 .ensures i;
       count = u8-at4 .ensures i;
       service = u16-at2 .ensures i;
+      sex = u8-at5 .ensures i;
       birth = date-at .ensures i;
       leaving = date-at2 .ensures i;
       guarantee = date-at3 .ensures i;
@@ -49,5 +51,5 @@ case-with-spec =
     (λ c κs. search needs) (λ c κs. search needs) (λ c κs. search needs) (λ c κs. search needs)
     (λ c κs. search needs) (λ c κs. search needs) (λ c κs. search needs) (λ c κs. search needs)
     (λ c κs. search needs) (λ c κs. search needs) (λ c κs. search needs) (λ c κs. search needs)
-    (λ c κs. search needs) (λ c κs. search needs) (λ c κs. search needs)
+    (λ c κs. search needs) (λ c κs. search needs) (λ c κs. search needs) (λ c κs. search needs)
     returns)

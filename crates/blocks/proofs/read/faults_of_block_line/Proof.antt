@@ -21,7 +21,7 @@ returns c =
     let s = now (args .b) in
     let i = args .i in
     let zero = zero-line s i (pre .0) (pre .1) (sym (line-nonzero .ensures) ∙ not-true (line-nonzero .result) (c .if2 .taken)) in
-    let none = zero-faults (args .rules) (args .count) i (lineBy (λ e. fieldOf s (place e)) i) (omega arith) zero in
+    let none = zero-faults (args .rules) (args .count) i (lineBy (λ e. fieldOf s (place e)) i) (args .flags) (omega arith) zero in
     (sym (none .0), sym (none .1))
 
 returns-2 : tie.Need-returns-2

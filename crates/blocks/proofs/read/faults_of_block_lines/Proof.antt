@@ -15,13 +15,13 @@ use Rattle.blocks.proofs.read.faults_of_block_lines.Statement.{statemen
 use Rattle.blocks.proofs.read.faults_of_block_lines.Tie as tie
 
 abbrev Inv-loop : tie.InvT-loop
-Inv-loop b kind count rules reserved₀ range₀ i₀ reserved range i =
+Inv-loop b kind flags count rules reserved₀ range₀ i₀ reserved range i =
     (i ≤ 4) × (rules ≡ rulesOf kind) ×
-    (reserved ≡ anyBelow i (λ k. lineReservedFault (rulesOf kind) count k (lineBy (λ e. fieldOf b (place e)) k))) ×
+    (reserved ≡ anyBelow i (λ k. lineReservedFault (rulesOf kind) flags count k (lineBy (λ e. fieldOf b (place e)) k))) ×
     (range ≡ anyBelow i (λ k. lineRangeFault (rulesOf kind) count k (lineBy (λ e. fieldOf b (place e)) k)))
 
 abbrev μ-loop : tie.MeasureT-loop
-μ-loop b kind count rules reserved₀ range₀ i₀ reserved range i = 4 - i
+μ-loop b kind flags count rules reserved₀ range₀ i₀ reserved range i = 4 - i
 
 loop-holds : tie.Need-loop-holds Inv-loop μ-loop
 loop-holds c = (omega arith, c .rules-of .ensures, any-none _, any-none _)

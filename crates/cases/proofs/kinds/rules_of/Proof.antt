@@ -13,4 +13,5 @@ rules-of-spec =
     (tie.spec
     (λ c. rw (c .match .keys1))
     (λ c. rw (c .match .keys2))
+    (λ c. rw (c .match .keys3))
     (λ c. no-row (c .before .args .kind) (λ h. omega arith)))

@@ -38,7 +38,7 @@ returns-3 : tie.Need-returns-3
 returns-3 c =
     let args = c .before .before .before .args in
     let line-filled = c .before .line-filled in
-    let none = zero-faults (args .rules) (args .count) (args .i) (args .l) (omega arith) (sym (line-filled .ensures) ∙ c .if2 .left) in
+    let none = zero-faults (args .rules) (args .count) (args .i) (args .l) (args .flags) (omega arith) (sym (line-filled .ensures) ∙ c .if2 .left) in
     (sym (none .0), sym (none .1))
 
 pub faults-of-line-spec : {M : Type 1} → statement M

@@ -15,7 +15,7 @@ use Rattle.cases.proofs.lines.faults_of_lines.Tie as tie
 abbrev Inv-loop : tie.InvT-loop
 Inv-loop c rules reserved₀ range₀ i₀ reserved range i =
     (i ≤ 4) × (rules ≡ rulesOf (c .kind)) ×
-    (reserved ≡ anyBelow i (λ k. lineReservedFault (rulesOf (c .kind)) (c .count) k (line c k))) ×
+    (reserved ≡ anyBelow i (λ k. lineReservedFault (rulesOf (c .kind)) (c .flags) (c .count) k (line c k))) ×
     (range ≡ anyBelow i (λ k. lineRangeFault (rulesOf (c .kind)) (c .count) k (line c k)))
 
 abbrev μ-loop : tie.MeasureT-loop

@@ -10,7 +10,8 @@ returns : tie.Need-returns
 unfolding reservedFilled
 returns c =
     let is-zero = c .before .before .before .before .before .before .before .before .is-zero in
-    rw (is-zero .ensures) (simp (or-false, or-assoc))
+    let lump-allowed = c .before .before .before .before .before .before .before .lump-allowed in
+    rw (is-zero .ensures, lump-allowed .ensures) (simp (or-false, or-assoc))
 
 pub reserved-filled-spec : {M : Type 1} → statement M
-reserved-filled-spec = tie.close (tie.spec (λ c κs. search needs) returns)
+reserved-filled-spec = tie.close (tie.spec (λ c κs. search needs) (λ c κs. search needs) returns)
