@@ -51,7 +51,7 @@ zero-amount l z a =
 pub zero-amounts : (l : Line) → lineFilled l ≡ false → Each amounts (λ a. amountIn a l ≡ 0)
 zero-amounts l z = each amounts (zero-amount l z)
 
--- nothing in it is what its kind or place forbids, and no amount is above the limit
+-- nothing in it is what its kind, flags or place forbid, and no amount is above the limit
 pub zero-reserved : (rules : Rules) (flags i : ℕ) (l : Line) → lineFilled l ≡ false → reservedFilled rules flags i l ≡ false
 unfolding lineFilled reservedFilled
 zero-reserved rules flags i l z =

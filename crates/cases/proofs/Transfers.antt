@@ -17,7 +17,7 @@ no-transfer-flag c k e =
     let f = c .flags in
     let rules = rulesOf (c .kind) in
     let barred = transferFlag f || filled (c .contributions) in
-    let head = or-false (headReservedFault c) (anyLine (lineReservedFault (rulesOf (c .kind)) (c .flags) (c .count)) c) e .0 in
+    let head = or-false (headReservedFault c) (anyLine (lineReservedFault rules f (c .count)) c) e .0 in
     let tests =
     none-holds (unusedFlag f)
     ((not (gmpFlag f) && not (isZero (c .«state_pension»))) ∷ (not (transferFlag f) && filled (c .transfer)) ∷ (not (rules .transfers) && barred) ∷

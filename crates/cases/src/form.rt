@@ -2,9 +2,11 @@
 ghost use mathlib.Core.Path.{_≡_};
 ghost use mathlib.Core.Bool.{_||_};
 ghost use Rattle.refusals.specs.Tests.{first, verdictNumber};
+ghost use Rattle.cases.specs.Kinds.{rulesOf};
 ghost use Rattle.cases.specs.Form as form;
 use crate::Case;
 use crate::Faults;
+use crate::Rules;
 use crate::flags::choice_optant_flag;
 use crate::flags::gmp_flag;
 use crate::flags::transfer_flag;
@@ -17,11 +19,11 @@ use refusals::Verdict;
 use refusals::refuse_if;
 
 // Whether the kind is not listed, or does not allow the count of lines.
-fn kind_fault(kind: u16, count: u8) -> bool
-    ensures { λ r. ⌜ r ≡ form.kindFault kind count ⌝ }
+fn kind_fault(c: Case, rules: Rules) -> bool
+    requires { ⌜ rules ≡ rulesOf (c .kind) ⌝ }
+    ensures { λ r. ⌜ r ≡ form.kindFault (c .kind) (c .count) ⌝ }
 {
-    let rules = rules_of(kind);
-    !((1 <= count) & (count <= rules.lines))
+    !((1 <= c.count) & (c.count <= rules.lines))
 }
 
 fn status_listed(x: u8) -> bool
@@ -52,10 +54,10 @@ fn sex_listed(x: u8) -> bool
 }
 
 // Whether a field before the lines that must be zero is not.
-fn head_reserved_fault(c: Case) -> bool
+fn head_reserved_fault(c: Case, rules: Rules) -> bool
+    requires { ⌜ rules ≡ rulesOf (c .kind) ⌝ }
     ensures { λ r. ⌜ r ≡ form.headReservedFault c ⌝ }
 {
-    let rules = rules_of(c.kind);
     unused_flag(c.flags)
         | (!gmp_flag(c.flags) & !calendar::is_zero(c.state_pension))
         | (!transfer_flag(c.flags) & (c.transfer != 0))
@@ -74,10 +76,10 @@ fn dates_range_fault(c: Case) -> bool
 }
 
 // Whether a field before the lines is out of its range.
-fn head_range_fault(c: Case) -> bool
+fn head_range_fault(c: Case, rules: Rules) -> bool
+    requires { ⌜ rules ≡ rulesOf (c .kind) ⌝ }
     ensures { λ r. ⌜ r ≡ form.headRangeFault c ⌝ }
 {
-    let rules = rules_of(c.kind);
     (c.number == 0)
         | !status_listed(c.status)
         | !receiver_listed(c.receiver)
@@ -95,17 +97,18 @@ pub fn form_verdict_by(c: Case, unnamed: bool, lines: Faults) -> Verdict
     ensures verdict { λ r. ⌜ r ≡ first (form.formTestsBy (form.kindFault (c .kind) (c .count)) (unnamed || (form.headReservedFault c || lines .reserved)) (form.headRangeFault c || lines .range)) ⌝ }
     ensures number { λ r. ⌜ verdictNumber r ≡ verdictNumber (first (form.formTestsBy (form.kindFault (c .kind) (c .count)) (unnamed || (form.headReservedFault c || lines .reserved)) (form.headRangeFault c || lines .range))) ⌝ }
 {
+    let rules = rules_of(c.kind);
     let range = refuse_if(
-        head_range_fault(c) | lines.range,
+        head_range_fault(c, rules) | lines.range,
         Refusal::Range,
         Verdict::Passed,
     );
     let reserved = refuse_if(
-        unnamed | (head_reserved_fault(c) | lines.reserved),
+        unnamed | (head_reserved_fault(c, rules) | lines.reserved),
         Refusal::Reserved,
         range,
     );
-    refuse_if(kind_fault(c.kind, c.count), Refusal::Kind, reserved)
+    refuse_if(kind_fault(c, rules), Refusal::Kind, reserved)
 }
 
 // Refusals 3, 4 and 5 of a case, read or built by hand, beside which a byte of its block that no field names may be other than zero:

@@ -10,7 +10,7 @@ use Rattle.cases.proofs.form.form_verdict_by.Tie as tie
 
 returns : tie.Need-returns
 returns c =
-    let args = c .before .before .before .before .before .before .before .before .args in
+    let args = c .before .before .before .before .before .before .before .before .before .args in
     let head-range-fault = c .before .before .before .before .before .before .before .head-range-fault in
     let refuse-if = c .before .before .before .before .before .refuse-if in
     let head-reserved-fault = c .before .before .before .before .head-reserved-fault in
@@ -25,5 +25,5 @@ form-verdict-by-spec =
     tie.close
     (tie.spec
     (λ c κs. search needs) (λ c κs. search needs) (λ c κs. search needs) (λ c κs. search needs)
-    (λ c κs. search needs) (λ c κs. search needs)
+    (λ c κs. search needs) (λ c κs. search needs) (λ c κs. search needs)
     returns)
