@@ -8,7 +8,7 @@ of the one above it, one in twenty with a transfer in (kind 2), and one in twent
     make_blocks.py N
 
 Every choice goes by the case's number. Kinds take turns by three and most of the rest by fifty; what must not depend on
-either goes by the number over 6, 7 or 150.
+either goes by the number over 3, 6, 7, 50 or 150.
 """
 import struct
 import sys

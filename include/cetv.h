@@ -13,8 +13,8 @@
  *        8      1  status: 1 deferred, 2 active, 3 pensioner, 4 pension credit
  *        9      1  receiving scheme: 1 defined benefit, 2 defined contribution,
  *                  3 overseas
- *       10      1  flags, added up: 1 transferred in, 2 has a guaranteed
- *                  minimum pension (GMP), 4 Choice Optant
+ *       10      1  flags, added up: 1 a transfer in, 2 a guaranteed minimum
+ *                  pension (GMP), 4 a Choice Optant
  *       11      1  count of lines: 1 to 4 in kind 2, 1 in the other kinds
  *       12      2  complete months of qualifying service
  *       14      1  sex: 1 male or 2 female in kind 3, zero in the other kinds
@@ -43,15 +43,15 @@
  * 2199. Benefits and divorce debits are as at leaving, modification and Scheme
  * Pays as at the guarantee date. The benefits are those before the divorce
  * debit; a debit pension is of the pension and the additional pension together,
- * and a debit survivor's pension likewise. A Choice Optant's lump sum is the
- * mandatory one, and the pension is the one after commutation.
+ * and a debit survivor's pension likewise. For a Choice Optant enter the
+ * mandatory lump sum, and the pension that commutation leaves.
  *
- * Zero are: every byte that no field names, and every flag not listed; lines
- * past the count, and their divorce debits; both additional amounts of lines 2
- * to 4; in kinds 1 and 3 flag 1, the date of the line and own contributions; in
- * kinds 1 and 2 flag 4 and the sex; in kind 2 the modification; in kind 2, and
- * in kind 3 without flag 4, the lump sum and both debits on it. A date that is
- * zero has four zero bytes.
+ * These must be zero: every byte that no field names, and every flag not
+ * listed; lines past the count, and their divorce debits; both additional
+ * amounts of lines 2 to 4; in kinds 1 and 3 flag 1, the date of the line and own
+ * contributions; in kinds 1 and 2 flag 4 and the sex; in kind 2 the
+ * modification; in kind 2, and in kind 3 without flag 4, the lump sum and both
+ * debits on it. A date that is zero has four zero bytes.
  *
  * The tables go by age last birthday at the guarantee date, 22 to 59 in kind 1
  * and 18 to 64 in kind 3; in kind 2 by the years from the guarantee date to the

@@ -10,8 +10,8 @@ transferFlag flags = eqb (flags % 2) 1
 abbrev pub gmpFlag : ℕ → Bool
 gmpFlag flags = eqb (flags / 2 % 2) 1
 
--- a Choice Optant (001, 2.21 and 2.22), who has to take a lump sum by giving up pension: the lump sum entered is that mandatory one,
--- and the pension the one after this commutation
+-- a Choice Optant (001, 2.21 and 2.22), who has to give up part of the pension for a lump sum: that mandatory lump sum is entered, and
+-- the pension that is left
 abbrev pub choiceOptantFlag : ℕ → Bool
 choiceOptantFlag flags = eqb (flags / 4 % 2) 1
 

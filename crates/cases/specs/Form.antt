@@ -43,7 +43,7 @@ anyFilled some l = any (λ a. filled (amountIn a l)) some
 unfoldable pub lineFilled : Line → Bool
 lineFilled l = not (isZero (l .date)) || anyFilled amounts l
 
--- a member may have a lump sum: every member of a kind that has lump sums, and in a kind that has Choice Optants only these
+-- whether a member may have a lump sum: all members may where the kind says so; where it has Choice Optants, only they may
 abbrev pub lumpAllowed : Rules → ℕ → Bool
 lumpAllowed rules flags = rules .lump || (rules .«choice_optants» && choiceOptantFlag flags)
 
@@ -92,8 +92,8 @@ datesRangeFault c =
     not (isReal (c .birth)) || not (isReal (c .leaving)) || not (isReal (c .guarantee)) ||
     (gmpFlag (c .flags) && not (isReal (c .«state_pension»)))
 
--- before the lines: a case number of 0, a code that is not listed (of the sex, where the kind asks for it), a revaluation factor, an
--- amount or a date out of its range
+-- before the lines: a case number of 0; a status, a receiving scheme or, where the kind asks for it, a sex that is not listed; a
+-- revaluation factor, an amount or a date out of its range
 unfoldable pub headRangeFault : Case → Bool
 headRangeFault c =
     eqb (c .number) 0 ||

@@ -62,7 +62,7 @@ pub struct Rules {
     pub transfers: bool,
     // Whether every member may have a lump sum, and debits on it.
     pub lump: bool,
-    // Whether there are Choice Optants, who may have them.
+    // Whether there are Choice Optants: they alone may have a lump sum, and debits on it, where not every member may.
     pub choice_optants: bool,
     pub modification: bool,
     // Whether the sex is entered.

@@ -8,7 +8,7 @@ use Rattle.factors.specs.declared.Factors.{Factors}
 use Rattle.factors.specs.declared.Row.{Row}
 use Rattle.factors.specs.declared.Row.the-variants.{Found, Absent}
 
--- the factors of a row of 001: A pension, B lump sum, C survivor, the last one the deduction
+-- the factors of a row of 001: A pension, B lump sum, C survivor, and last the deduction
 abbrev pub fourColumns : List ℕ → Factors
 fourColumns row =
     record {

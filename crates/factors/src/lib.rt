@@ -174,7 +174,7 @@ const SCHEME_2015: [[u16; 2]; 50] = [
     [553, 75],
 ];
 
-// The factors of a row of 001: A pension, B lump sum, C survivor, the last one the deduction.
+// The factors of a row of 001: A pension, B lump sum, C survivor, and last the deduction.
 fn four_columns(row: [u16; 4]) -> Factors
     ensures { λ r. ⌜ r ≡ fourColumns row ⌝ }
 {

@@ -117,8 +117,8 @@ struct Tally {
     agree: u64,
 }
 
-// Whether a line belongs to the table of a year and a mark: the byte after the year is m or f where men and women have tables of
-// their own, and a blank elsewhere.
+// Whether a line belongs to the table of a year and a mark: the byte after the year is m or f where the file has a table for each
+// sex, and a blank elsewhere.
 fn belongs(s: &[u8], year: Number, table: u64, mark: u8) -> bool {
     (year.value == table) & (after(s, year.end, mark) != year.end)
 }
