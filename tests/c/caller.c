@@ -140,6 +140,9 @@ static void tests(void)
     formed("a sex that is not listed", block, 512, 3, 256, "3 0 refused 5 range\n");
     block[10] = 0;
     put_check(block);
+    formed("that sex, and a lump sum of one who is no Choice Optant", block, 512, 3, 256, "3 0 refused 4 reserved\n");
+    block[14] = 1;
+    put_check(block);
     formed("a lump sum of one who is no Choice Optant", block, 512, 3, 256, "3 0 refused 4 reserved\n");
     memset(block, 0, sizeof block);
     formed("a block of zeros", block, 512, 3, 256, "3 0 refused 3 kind\n");

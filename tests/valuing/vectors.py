@@ -94,11 +94,6 @@ def record(case):
     return b"".join(number.to_bytes(8, "little") for number in numbers)
 
 
-def cut(case):
-    """The case that the record holds: the sex is one byte."""
-    return case | {"sex": case["sex"] % 256}
-
-
 # ---------------------------------------------------------------------------
 # The model: the calendar, the factors, the refusals in their order, the sum.
 
@@ -500,7 +495,7 @@ def group(name):
 def vector(label, expectation, base, changes=None, wrong=None):
     """A case with some fields changed. `wrong` is a payment or a refusal that a known mistake would give."""
     case = base | (changes or {})
-    found = valued(cut(case))
+    found = valued(case)
     if found != expectation:
         FAULTS.append(f"{_group}: {label}: stated {text(expectation)}, model {text(found)}")
     if set(case) != set(FIELDS):
@@ -2117,13 +2112,9 @@ def kind_3_leap_days():
 
 def kind_3_sex():
     group("4 and 5, sex")
-    others = (
-        ("kind 1", P54, P54_PAID), ("kind 2", P25, P25_PAID), ("kind 2, four lines", P4, P4_PAID), ("001, A", A_001, None),
-        ("003, B", B_003, None),
-    )
+    others = (("kind 1", P54, P54_PAID), ("kind 2", P25, P25_PAID), ("kind 2, four lines", P4, P4_PAID))
     for label, base, accepted in others:
-        if accepted is not None:
-            vector(f"{label}, sex 0", accepted, base)
+        vector(f"{label}, sex 0", accepted, base)
         for code in (1, 2, 3, 128, 255):
             vector(f"{label}, sex {code}", 4, base, {"sex": code})
     for label, base in (("kind 3", P50), ("kind 3, Choice Optant", OPTANT_P50)):
@@ -2131,13 +2122,6 @@ def kind_3_sex():
             vector(f"{label}, sex {code}", P50_PAID, base, {"sex": code})
         for code in (0, 3, 4, 129, 130, 255):
             vector(f"{label}, sex {code}", 5, base, {"sex": code})
-    # The record's number is cut to a byte.
-    for code in (257, 258, 2**32 + 1):
-        vector(f"kind 3, sex {code}", P50_PAID, P50, {"sex": code})
-    for code in (256, 259, 2**32):
-        vector(f"kind 3, sex {code}", 5, P50, {"sex": code})
-    vector("kind 1, sex 256", P54_PAID, P54, {"sex": 256})
-    vector("kind 2, sex 257", 4, P25, {"sex": 257})
 
 
 def kind_3_kind():
@@ -2482,7 +2466,7 @@ def kind_3_survivor():
 
 
 def kind_3_choice_optants():
-    """The lump sum is the mandatory one and the pension the one after commutation: neither is worked from the other."""
+    """The lump sum that has to be taken, and the pension that is left after it: neither is worked from the other."""
     group("Choice Optants")
     whole = OPTANT_P50 | {"line 1 lump sum": 100_00, "line 1 survivor": 100_00}
     vector("the lump sum is added", paid("1,355.00", pension="1,284.00", lump="71.00"), OPTANT_P50, {
@@ -2520,7 +2504,7 @@ def kind_3_choice_optants():
     vector("a divorce debit above the lump sum", paid("1,213.00", pension="1,284.00", lump="71.00"), lump, {
         "line 1 debit lump sum": 200_00,
     })
-    # 31,500.00 less 10,000.00, at leaving: 36,855.00 less 10,000.00 at 0.71
+    # Scheme Pays is as at the guarantee date: 36,855.00 less 10,000.00, at 0.71; revalued it would be 11,700.00
     vector("001, D, Scheme Pays on the lump sum", paid(
         "191,088.62", pension="163,372.95", lump="19,067.05", survivor="8,648.6166",
     ), D_001, {"line 1 Scheme Pays lump sum": 10_000_00}, wrong="189,881.62")

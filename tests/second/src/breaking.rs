@@ -70,7 +70,7 @@ fn kind_not_listed(_: &Model, random: &mut Random, block: &mut Block) {
 fn count_not_allowed(_: &Model, random: &mut Random, block: &mut Block) {
     let count = match random.below(3) {
         0 => 0,
-        1 if block.rules().most_lines == 1 => random.between(2, 5),
+        1 if most_lines(block.kind()) == 1 => random.between(2, 5),
         1 => random.pick(&[5, 6, 128]),
         _ => random.between(5, 255),
     };
@@ -106,9 +106,12 @@ fn unused_flag(_: &Model, random: &mut Random, block: &mut Block) {
 }
 
 fn flag_of_another_kind(_: &Model, random: &mut Random, block: &mut Block) {
-    let allowed = block.rules().flags;
-    let flags: Vec<u64> = [TRANSFERRED_IN, CHOICE_OPTANT].into_iter().filter(|flag| allowed & flag == 0).collect();
-    block.set_flag(random.pick(&flags), true);
+    let flags: &[u64] = match block.kind() {
+        1 => &[TRANSFERRED_IN, CHOICE_OPTANT],
+        2 => &[CHOICE_OPTANT],
+        _ => &[TRANSFERRED_IN],
+    };
+    block.set_flag(random.pick(flags), true);
 }
 
 fn line_past_count(model: &Model, random: &mut Random, block: &mut Block) {
@@ -411,7 +414,7 @@ fn state_pension_early(_: &Model, random: &mut Random, block: &mut Block) {
 }
 
 fn too_old(_: &Model, random: &mut Random, block: &mut Block) {
-    let reached = match block.rules().pension_age {
+    let reached = match pension_age(block.kind()) {
         Some(years) => moved_on(block.get_date(at::BIRTH), years),
         None => block.day(block.some_line(random) + at::DATE),
     };
@@ -429,7 +432,7 @@ fn too_old_from_leap_birthday(model: &Model, random: &mut Random, block: &mut Bl
     make_of_kind(model, random, block, &[1, 3]);
     let birth = some_leap_day(random);
     block.put_date(at::BIRTH, birth);
-    let guarantee = moved_on(birth, block.rules().pension_age.unwrap()) + random.between(0, 1);
+    let guarantee = moved_on(birth, pension_age(block.kind()).unwrap()) + random.between(0, 1);
     put_guarantee_after_leaving(random, block, guarantee);
 }
 
@@ -440,7 +443,7 @@ fn too_old_to_refer(model: &Model, random: &mut Random, block: &mut Block) {
 
 fn refer_before_pension_age(model: &Model, random: &mut Random, block: &mut Block) {
     state_pension_early(model, random, block);
-    let reached = match block.rules().pension_age {
+    let reached = match pension_age(block.kind()) {
         Some(years) => moved_on(block.get_date(at::BIRTH), years),
         None => at::LINES[..block.count()].iter().map(|start| block.day(start + at::DATE)).min().unwrap(),
     };

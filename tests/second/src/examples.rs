@@ -159,7 +159,7 @@ pub fn all() -> Vec<Example> {
     ]
 }
 
-/// One file to an example, all of them in one, and the three blocks that 01 prints the output for.
+/// One file to an example, all of them in one, and the three blocks whose lines 01 shows.
 pub fn write_cases(folder: &str) -> Result<(), String> {
     let write = |name: &str, bytes: &[u8]| {
         let path = format!("{folder}/{name}.case");
@@ -173,6 +173,6 @@ pub fn write_cases(folder: &str) -> Result<(), String> {
         together.extend_from_slice(&example.block.0);
     }
     write("examples", &together)?;
-    let sample = [sealed(a_of_001()).0, sealed(b_of_003()).0, Block::zeros().0].concat();
-    write("sample", &sample)
+    let three = [sealed(a_of_001()).0, sealed(b_of_003()).0, Block::zeros().0].concat();
+    write("three", &three)
 }

@@ -43,14 +43,9 @@ impl Block {
         self.get(at::KIND, 2)
     }
 
-    /// What sets its kind apart, which must be a listed one.
-    pub fn rules(&self) -> &'static Kind {
-        Kind::of(self.kind()).unwrap()
-    }
-
     /// Whether its kind and its flags allow this amount on a line.
     pub fn takes(&self, field: usize) -> bool {
-        self.rules().takes(field, self.get(at::FLAGS, 1))
+        !absent_amounts(self.kind(), self.get(at::FLAGS, 1)).contains(&field)
     }
 
     /// The first and the last key of its table.

@@ -89,7 +89,7 @@ impl Reached {
             print(&format!("refusal {number:>2} {name}"), self.refusals[number]);
         }
         for (kind, n) in KINDS.iter().zip(self.paid) {
-            print(&format!("paid, kind {}", kind.number), n);
+            print(&format!("paid, kind {kind}"), n);
         }
         for (place, (name, _, _)) in TABLES.iter().enumerate() {
             print(&format!("each row of {name}, at least"), self.least_of_rows(place));

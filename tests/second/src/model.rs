@@ -15,52 +15,33 @@ pub const CHOICE_OPTANT: u64 = 4;
 pub const MALE: u64 = 1;
 pub const FEMALE: u64 = 2;
 
-/// What sets a kind apart.
-pub struct Kind {
-    pub number: u64,
-    pub most_lines: u64,
-    /// The flags that it may have.
-    pub flags: u64,
-    /// None where its lines are dated, each on a pension age of its own.
-    pub pension_age: Option<i64>,
-    /// The flag that a lump sum and the debits on it ask for, 0 where they ask for none; none where they are not allowed.
-    pub lump_sum: Option<u64>,
-    pub has_sex: bool,
+/// The 1995 section with pension age 60, the 2015 scheme and the 2008 section.
+pub const KINDS: [u64; 3] = [1, 2, 3];
+
+/// How many lines a case of this kind may have; none where the kind is not listed.
+pub fn most_lines(kind: u64) -> u64 {
+    match kind {
+        1 | 3 => 1,
+        2 => 4,
+        _ => 0,
+    }
 }
 
-/// The 1995 section with pension age 60, the 2015 scheme and the 2008 section.
-pub const KINDS: [Kind; 3] = [
-    Kind { number: 1, most_lines: 1, flags: HAS_GMP, pension_age: Some(60), lump_sum: Some(0), has_sex: false },
-    Kind {
-        number: 2,
-        most_lines: 4,
-        flags: HAS_GMP | TRANSFERRED_IN,
-        pension_age: None,
-        lump_sum: None,
-        has_sex: false,
-    },
-    Kind {
-        number: 3,
-        most_lines: 1,
-        flags: HAS_GMP | CHOICE_OPTANT,
-        pension_age: Some(65),
-        lump_sum: Some(CHOICE_OPTANT),
-        has_sex: true,
-    },
-];
-
-impl Kind {
-    pub fn of(number: u64) -> Option<&'static Kind> {
-        KINDS.iter().find(|kind| kind.number == number)
+/// The age from which a member is too old in kinds 1 and 3. In kind 2 the dates of the lines decide.
+pub fn pension_age(kind: u64) -> Option<i64> {
+    match kind {
+        1 => Some(60),
+        3 => Some(65),
+        _ => None,
     }
+}
 
-    /// Whether a line of a case with these flags may have this amount.
-    pub fn takes(&self, field: usize, flags: u64) -> bool {
-        match field {
-            at::MODIFICATION => self.pension_age.is_some(),
-            _ if at::LUMP_SUM.contains(&field) => self.lump_sum.map_or(false, |asked| flags & asked == asked),
-            _ => true,
-        }
+/// The amounts that are zero on every line of a case of this kind with these flags.
+pub fn absent_amounts(kind: u64, flags: u64) -> &'static [usize] {
+    match kind {
+        2 => &[at::LUMP, at::MODIFICATION, at::SCHEME_PAYS_LUMP, at::DEBIT_LUMP],
+        3 if flags & CHOICE_OPTANT == 0 => &at::LUMP_SUM,
+        _ => &[],
     }
 }
 
@@ -295,10 +276,6 @@ impl Case {
         self.flags & flag != 0
     }
 
-    pub fn pension_age(&self) -> Option<i64> {
-        Kind::of(self.kind).and_then(|kind| kind.pension_age)
-    }
-
     /// The lines that the count covers.
     pub fn used(&self) -> &[Line] {
         &self.lines[..self.count as usize]
@@ -487,11 +464,11 @@ impl Model {
         &self.unnamed
     }
 
-    /// The key into the case's table: age where the kind has a pension age, else years ahead of the line.
+    /// The key into the case's table: years ahead of the line in kind 2, age in kinds 1 and 3.
     pub fn key(&self, case: &Case, line: &Line) -> i64 {
-        match case.pension_age() {
-            Some(_) => age(case.birth, case.guarantee),
-            None => years_ahead(case.guarantee, line.date),
+        match case.kind {
+            2 => years_ahead(case.guarantee, line.date),
+            _ => age(case.birth, case.guarantee),
         }
     }
 
@@ -507,10 +484,11 @@ impl Model {
             return Err(2);
         }
         let case = case_of(block);
-        let kind = Kind::of(case.kind).filter(|kind| (1..=kind.most_lines).contains(&case.count)).ok_or(3usize)?;
-        if self.unnamed.iter().any(|&i| block[i] != 0) || reserved_broken(block, &case, kind) {
+        if !(1..=most_lines(case.kind)).contains(&case.count) {
+            Err(3)
+        } else if self.unnamed.iter().any(|&i| block[i] != 0) || reserved_broken(block, &case) {
             Err(4)
-        } else if range_broken(&case, kind) {
+        } else if range_broken(&case) {
             Err(5)
         } else {
             Ok(case)
@@ -560,27 +538,46 @@ pub fn hundredths(word: &str) -> Option<i128> {
 }
 
 /// Every must-be-zero rule but that of the unnamed bytes.
-fn reserved_broken(block: &[u8], case: &Case, kind: &Kind) -> bool {
-    let nonzero = |offset: usize, width: usize| number_at(block, offset, width) != 0;
-    let filled = |start: usize, length: usize| block[start..start + length].iter().any(|&byte| byte != 0);
-    let count = case.count as usize;
-    let past_count = at::LINES[count..].iter().any(|&start| filled(start, at::LINE_LENGTH))
-        || at::GROUPS[count..].iter().any(|&start| filled(start, at::GROUP_LENGTH));
-    let not_taken = |start: usize| {
-        at::AMOUNTS.iter().any(|&field| !kind.takes(field, case.flags) && nonzero(at::amount(start, field), 8))
+fn reserved_broken(block: &[u8], case: &Case) -> bool {
+    let of_kind = match case.kind {
+        1 => transfer_or_date_filled(block, case) || choice_optant_or_sex_filled(case),
+        2 => choice_optant_or_sex_filled(case),
+        _ => transfer_or_date_filled(block, case),
     };
-    case.flags & !kind.flags != 0
-        || (!kind.has_sex && case.sex != 0)
-        || past_count
-        || (!case.has(HAS_GMP) && nonzero(at::STATE_PENSION, 4))
-        || (!case.has(TRANSFERRED_IN) && nonzero(at::TRANSFER_IN, 8))
-        || (kind.pension_age.is_some() && (nonzero(at::CONTRIBUTIONS, 8) || nonzero(at::LINES[0] + at::DATE, 4)))
-        || at::LINES.into_iter().any(not_taken)
+    case.flags & !(TRANSFERRED_IN | HAS_GMP | CHOICE_OPTANT) != 0
+        || past_count_filled(block, case)
+        || (!case.has(HAS_GMP) && number_at(block, at::STATE_PENSION, 4) != 0)
+        || (!case.has(TRANSFERRED_IN) && case.transfer_in != 0)
+        || of_kind
+        || absent_amount_filled(block, case)
         || case.lines[1..].iter().any(|line| line.additional != 0 || line.dependant != 0)
 }
 
+/// Zero in kinds 1 and 3: own contributions, the flag of a transfer in, and the line's date.
+fn transfer_or_date_filled(block: &[u8], case: &Case) -> bool {
+    case.has(TRANSFERRED_IN) || case.contributions != 0 || number_at(block, at::LINES[0] + at::DATE, 4) != 0
+}
+
+/// Zero in kinds 1 and 2.
+fn choice_optant_or_sex_filled(case: &Case) -> bool {
+    case.has(CHOICE_OPTANT) || case.sex != 0
+}
+
+fn absent_amount_filled(block: &[u8], case: &Case) -> bool {
+    let filled = |start: usize, field: usize| number_at(block, at::amount(start, field), 8) != 0;
+    let absent = absent_amounts(case.kind, case.flags);
+    at::LINES.iter().any(|&start| absent.iter().any(|&field| filled(start, field)))
+}
+
+fn past_count_filled(block: &[u8], case: &Case) -> bool {
+    let filled = |start: usize, length: usize| block[start..start + length].iter().any(|&byte| byte != 0);
+    let count = case.count as usize;
+    at::LINES[count..].iter().any(|&start| filled(start, at::LINE_LENGTH))
+        || at::GROUPS[count..].iter().any(|&start| filled(start, at::GROUP_LENGTH))
+}
+
 /// Dates that must be zero were held to that by the rule before, so only the others are tried here.
-fn range_broken(case: &Case, kind: &Kind) -> bool {
+fn range_broken(case: &Case) -> bool {
     let amounts_broken = |line: &Line| {
         let Line { pension, additional, survivor, dependant, .. } = *line;
         let Line { lump, modification, scheme_pays, scheme_pays_lump, .. } = *line;
@@ -592,13 +589,13 @@ fn range_broken(case: &Case, kind: &Kind) -> bool {
     case.number == 0
         || !(1..=4).contains(&case.status)
         || !(1..=3).contains(&case.receiver)
-        || (kind.has_sex && ![MALE, FEMALE].contains(&case.sex))
+        || (case.kind == 3 && ![MALE, FEMALE].contains(&case.sex))
         || !(10_000..=100_000).contains(&case.revaluation)
         || [case.avc, case.transfer_in, case.contributions].iter().any(|&a| a > LARGEST_AMOUNT)
         || case.lines.iter().any(amounts_broken)
         || ![case.birth, case.leaving, case.guarantee].iter().all(|&d| is_real(d))
         || (case.has(HAS_GMP) && !is_real(case.state_pension))
-        || (kind.pension_age.is_none() && !case.used().iter().all(|line| is_real(line.date)))
+        || (case.kind == 2 && !case.used().iter().all(|line| is_real(line.date)))
 }
 
 fn dates_broken(case: &Case) -> bool {
@@ -625,7 +622,7 @@ pub fn gmp_to_refer(case: &Case) -> bool {
 
 fn past_pension_age(case: &Case) -> bool {
     let guarantee = day_number(case.guarantee);
-    match case.pension_age() {
+    match pension_age(case.kind) {
         Some(years) => age(case.birth, case.guarantee) >= years,
         None => case.used().iter().any(|line| day_number(line.date) <= guarantee),
     }

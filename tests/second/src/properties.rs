@@ -373,9 +373,11 @@ struct Pairs {
 }
 
 /// How many entries a case of this kind may have in these fields: one to a line in a field that every line may have, else one.
-fn entries_of(kind: &Kind, fields: &[usize]) -> u64 {
-    let taken = fields.iter().filter(|field| kind.takes(**field, kind.flags));
-    taken.map(|field| if at::ONLY_LINE_1.contains(field) { 1 } else { kind.most_lines }).sum()
+fn entries_of(kind: u64, fields: &[usize]) -> u64 {
+    // In kind 3 a Choice Optant may have them all.
+    let absent = absent_amounts(kind, CHOICE_OPTANT);
+    let taken = fields.iter().filter(|field| !absent.contains(field));
+    taken.map(|field| if at::ONLY_LINE_1.contains(field) { 1 } else { most_lines(kind) }).sum()
 }
 
 /// Tries so many pairs that differ in one of these fields. Each entry that a case of each kind may have there must be drawn as
@@ -390,13 +392,13 @@ fn try_pairs(model: &Model, pairs: u64, seed: u64, stream: u64, fields: &[usize]
         *drawn.entry((tried.kind, tried.entry.start, tried.entry.field)).or_insert(0) += 1;
         divorced += tried.divorced as u64;
     }
-    let entries: u64 = KINDS.iter().map(|kind| entries_of(kind, fields)).sum();
+    let entries: u64 = KINDS.iter().map(|&kind| entries_of(kind, fields)).sum();
     let (found, least_drawn) = (drawn.len() as u64, *drawn.values().min().unwrap());
     if found != entries || least_drawn < LEAST_REACHED {
         return Err(format!("{found} of {entries} entries drawn, one of them {least_drawn} times; seed {seed}"));
     }
-    let of = |kind: &Kind| drawn.iter().filter(|(entry, _)| entry.0 == kind.number).map(|(_, n)| n).sum();
-    Ok(Pairs { divorced, of_kind: std::array::from_fn(|place| of(&KINDS[place])), least_drawn })
+    let of = |kind| drawn.iter().filter(|(entry, _)| entry.0 == kind).map(|(_, n)| n).sum();
+    Ok(Pairs { divorced, of_kind: KINDS.map(of), least_drawn })
 }
 
 fn try_orders_of_many(model: &Model, cases: u64, seed: u64) -> Result<u64, String> {

@@ -153,7 +153,7 @@ fn to_refer(case: &Case, answer: &Answer, refusal: Refusal) -> bool {
 /// Whether the case is of this kind and its guarantee date lies so many days after the birthday on which pension age is reached.
 fn at_pension_age(case: &Case, kind: u64, days: i64) -> bool {
     let on_that_day = |years| day_number(case.guarantee) == moved_on(case.birth, years) + days;
-    case.kind == kind && case.pension_age().map_or(false, on_that_day)
+    case.kind == kind && pension_age(case.kind).map_or(false, on_that_day)
 }
 
 /// Whether the guarantee date lies so many days after the earliest date of a line.

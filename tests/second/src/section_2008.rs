@@ -108,8 +108,8 @@ fn count_alone(seen: &Seen, low: u64, high: u64) -> bool {
 
 /// Whether the block is refused for its kind alone: with a listed one it would be read.
 fn kind_alone(seen: &Seen, number: u64) -> bool {
-    let with = |kind: &Kind| seen.but_for(3, |block| block.put(at::KIND, 2, kind.number));
-    seen.case.kind == number && KINDS.iter().any(with)
+    let with = |kind| seen.but_for(3, |block| block.put(at::KIND, 2, kind));
+    seen.case.kind == number && KINDS.into_iter().any(with)
 }
 
 fn aged(seen: &Seen, years: i64) -> bool {
