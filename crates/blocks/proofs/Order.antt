@@ -10,25 +10,23 @@ use Rattle.refusals.specs.Tests.{first, NoneOf, verdictNumber}
 use Rattle.refusals.specs.declared.Verdict.{Verdict}
 use Rattle.refusals.specs.declared.Verdict.the-variants.{Passed, Refused}
 use Rattle.refusals.proofs.Order.{first-none}
-use Rattle.cases.specs.Layout.{headAt}
-use Rattle.cases.specs.Entries.{caseWith, caseBy, anyLine}
+use Rattle.cases.specs.Entries.{caseBy, anyLine}
 use Rattle.cases.specs.Kinds.{rulesOf}
 use Rattle.cases.specs.Form.{kindFault, lineReservedFault, lineRangeFault, headReservedFault, reservedFault, datesRangeFault, headRangeFault, rangeFault, formTests, formTestsBy, WellFormed}
-use Rattle.cases.specs.declared.Line.{Line}
-use Rattle.blocks.specs.Block.{fieldOf, caseOf, unnamedFault}
+use Rattle.blocks.specs.Block.{headOf, caseOf, unnamedFault}
 use Rattle.blocks.specs.Reading.{readingTests, readingBy, readingOf}
 use Rattle.blocks.specs.declared.Reading.{Reading}
 
 -- the refusals of a block's case, from its fields before the lines and from what its lines break
 pub by-head :
-    (s : List ℕ) (unnamed : Bool) (lines : List Line) →
-    (let c = caseWith (λ h. fieldOf s (headAt h)) lines in
+    (s : List ℕ) (unnamed : Bool) →
+    (let c = headOf s in
     formTestsBy (kindFault (c .kind) (c .count))
     (unnamed || (headReservedFault c || anyLine (lineReservedFault (rulesOf (c .kind)) (c .flags) (c .count)) (caseOf s)))
     (headRangeFault c || anyLine (lineRangeFault (rulesOf (c .kind)) (c .count)) (caseOf s)))
     ≡ formTests unnamed (caseOf s)
-unfolding caseOf caseBy reservedFault rangeFault headReservedFault headRangeFault datesRangeFault
-by-head s unnamed lines = refl
+unfolding headOf caseOf caseBy reservedFault rangeFault headReservedFault headRangeFault datesRangeFault
+by-head s unnamed = refl
 
 -- the number that a reading gives
 pub numbered :

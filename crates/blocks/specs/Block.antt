@@ -10,8 +10,8 @@ use Rattle.numbers.specs.Below.{sumBelow, anyBelow}
 use Rattle.numbers.specs.Lists.{any}
 use Rattle.buffers.specs.Bytes.{numberAt}
 use Rattle.calendar.specs.declared.Date.{Date}
-use Rattle.cases.specs.Layout.{Amount, amount-discrete, amountsOfLine, amountsOfDivorceDebit, Field, place, layout, gaps}
-use Rattle.cases.specs.Entries.{lineWith, caseBy}
+use Rattle.cases.specs.Layout.{Amount, amount-discrete, amountsOfLine, amountsOfDivorceDebit, Field, headAt, place, layout, gaps}
+use Rattle.cases.specs.Entries.{lineWith, caseWith, caseBy}
 use Rattle.cases.specs.declared.Line.{Line}
 use Rattle.cases.specs.declared.Case.{Case}
 
@@ -42,7 +42,12 @@ nonzero s f = anyBelow (f .width) (λ i. not (eqb (getD s (f .offset + i) 0) 0))
 unfoldable pub unnamedFault : List ℕ → Bool
 unnamedFault s = any (nonzero s) (gaps 0 512 layout)
 
--- No promise of a public function speaks of what follows: the code reads a group of amounts at a time.
+-- No promise of a public function speaks of what follows: the code reads the fields before the lines apart from them, and a group of
+-- amounts at a time.
+-- the case of a block's fields before the lines, with lines of zeros in their place
+unfoldable pub headOf : List ℕ → Case
+headOf s = caseWith (λ h. fieldOf s (headAt h)) (zeroCase .lines)
+
 -- how many members of a list stand before an amount
 abbrev pub placeIn : Amount → List Amount → ℕ
 placeIn a [] = 0

@@ -74,10 +74,13 @@ pub(crate) fn line_of(b: &[u8], i: usize) -> Line
     line_with(date_at(b, at), n, debit)
 }
 
-// The case that a block's fields before the lines, and the lines given, make.
-pub(crate) fn case_with(b: &[u8], lines: [Line; 4]) -> Case
-    ensures { λ r. ⌜ r ≡ entries.caseWith (λ h. block.fieldOf (now (b .entry)) (headAt h)) lines ⌝ }
+// The case of a block's fields before the lines, with lines of zeros in their place. It is called once for a block: with two calls
+// the compiler inlines it into one program and not into another.
+pub(crate) fn head_of(b: &[u8]) -> Case
+    ensures { λ r. ⌜ r ≡ block.headOf (now (b .entry)) ⌝ }
 {
+    let zero = zero_case();
+    let zero_lines = zero.lines;
     Case {
         kind: u16_at(b, 0),
         number: u32_at(b, 4),
@@ -95,15 +98,39 @@ pub(crate) fn case_with(b: &[u8], lines: [Line; 4]) -> Case
         avc: u64_at(b, 40),
         transfer: u64_at(b, 48),
         contributions: u64_at(b, 56),
-        lines: lines,
+        lines: zero_lines,
     }
 }
 
-pub(crate) fn case_of(b: &[u8]) -> Case
+// The case of a block whose fields before the lines were read already: those of `head`.
+pub(crate) fn case_of(b: &[u8], head: Case) -> Case
+    requires { ⌜ head ≡ block.headOf (now b) ⌝ }
     ensures { λ r. ⌜ r ≡ block.caseOf (now (b .entry)) ⌝ }
 {
     let lines = [line_of(b, 0), line_of(b, 1), line_of(b, 2), line_of(b, 3)];
-    case_with(b, lines)
+    let birth = head.birth;
+    let leaving = head.leaving;
+    let guarantee = head.guarantee;
+    let state_pension = head.state_pension;
+    Case {
+        kind: head.kind,
+        number: head.number,
+        status: head.status,
+        receiver: head.receiver,
+        flags: head.flags,
+        count: head.count,
+        service: head.service,
+        sex: head.sex,
+        birth: birth,
+        leaving: leaving,
+        guarantee: guarantee,
+        state_pension: state_pension,
+        revaluation: head.revaluation,
+        avc: head.avc,
+        transfer: head.transfer,
+        contributions: head.contributions,
+        lines: lines,
+    }
 }
 
 pub(crate) fn zero_case() -> Case

@@ -7,17 +7,18 @@ ghost use Rattle.cases.specs.Layout.{place};
 ghost use Rattle.cases.specs.Entries.{lineBy, anyLine};
 ghost use Rattle.cases.specs.Kinds.{rulesOf};
 ghost use Rattle.cases.specs.Form.{lineReservedFault, lineRangeFault, formTests};
-ghost use Rattle.blocks.specs.Block.{fieldOf, caseOf, unnamedFault};
+ghost use Rattle.blocks.specs.Block.{fieldOf, headOf, caseOf, unnamedFault};
 ghost use Rattle.blocks.specs.Reading as reading;
 use crate::Reading;
 use crate::check::checksum;
 use crate::fields::case_of;
-use crate::fields::case_with;
+use crate::fields::head_of;
 use crate::fields::line_of;
 use crate::fields::zero_case;
 use crate::gaps::line_nonzero;
 use crate::gaps::unnamed_fault;
 use buffers::u32_at;
+use cases::Case;
 use cases::Faults;
 use cases::Rules;
 use cases::faults_of_line;
@@ -61,27 +62,25 @@ fn faults_of_block_lines(b: &[u8], kind: u16, flags: u8, count: u8) -> Faults
     Faults { reserved, range }
 }
 
-// Refusals 3, 4 and 5 of a block's case. Its lines are tested in the block, so `head` has lines of zeros in their place.
-fn form_verdict_of(b: &[u8]) -> Verdict
-    requires { ⌜ 512 ≤ length (now b) ⌝ }
+// Refusals 3, 4 and 5 of a block's case, whose fields before the lines are those of `head`. Its lines are tested in the block.
+fn form_verdict_of(b: &[u8], head: Case) -> Verdict
+    requires { ⌜ (512 ≤ length (now b)) × (head ≡ headOf (now b)) ⌝ }
     ensures { λ r. ⌜ r ≡ first (formTests (unnamedFault (now (b .entry))) (caseOf (now (b .entry)))) ⌝ }
 {
-    let zero = zero_case();
-    let zero_lines = zero.lines;
-    let head = case_with(b, zero_lines);
     let lines = faults_of_block_lines(b, head.kind, head.flags, head.count);
     form_verdict_by(head, unnamed_fault(b), lines)
 }
 
 // The first of refusals 1 to 5 that applies to a block of any length, or that none does.
-fn verdict_of(b: &[u8]) -> Verdict
+fn verdict_of(b: &[u8], head: Case) -> Verdict
+    requires { ⌜ head ≡ headOf (now b) ⌝ }
     ensures { λ r. ⌜ r ≡ first (reading.readingTests (now (b .entry))) ⌝ }
 {
     if b.len() != 512 {
         return Verdict::Refused(Refusal::Length);
     }
     let damaged = checksum(b) != u32_at(b, 508);
-    refuse_if(damaged, Refusal::Check, form_verdict_of(b))
+    refuse_if(damaged, Refusal::Check, form_verdict_of(b, head))
 }
 
 // Reads a block of any length.
@@ -89,10 +88,11 @@ pub fn read_block(b: &[u8]) -> Reading
     ensures reading { λ r. ⌜ r ≡ reading.readingOf (now (b .entry)) ⌝ }
     ensures number { λ r. ⌜ verdictNumber (r .verdict) ≡ verdictNumber (first (reading.readingTests (now (b .entry)))) ⌝ }
 {
-    match verdict_of(b) {
+    let head = head_of(b);
+    match verdict_of(b, head) {
         Verdict::Passed => Reading {
             verdict: Verdict::Passed,
-            case: case_of(b),
+            case: case_of(b, head),
         },
         Verdict::Refused(why) => Reading {
             verdict: Verdict::Refused(why),

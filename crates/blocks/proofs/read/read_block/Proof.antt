@@ -13,7 +13,7 @@ use Rattle.blocks.proofs.read.read_block.Tie as tie
 returns : tie.Need-returns
 unfolding readingOf
 returns c =
-    let args = c .before .before .before .before .before .args in
+    let args = c .before .before .before .before .before .before .args in
     let verdict-of = c .before .before .before .verdict-of in
     let enum-told = c .before .enum-told in
     let read : Reading = record { verdict = Passed; case = c .case-of .result } in
@@ -24,7 +24,7 @@ returns c =
 returns-2 : tie.Need-returns-2
 unfolding readingOf
 returns-2 c =
-    let args = c .before .before .before .before .before .before .args in
+    let args = c .before .before .before .before .before .before .before .args in
     let verdict-of = c .before .before .before .before .verdict-of in
     let why = c .before .before .why in
     let read : Reading = record { verdict = Refused (why .given .0 .0); case = c .zero-case .result } in
@@ -36,7 +36,6 @@ pub read-block-spec : {M : Type 1} → statement M
 read-block-spec =
     tie.close
     (tie.spec
-    (λ c κs. search needs) (λ c. search needs) (λ c κs. search needs) (λ c. search needs)
-    (λ c κs. search needs)
+    (λ c κs. search needs) (λ c κs. search needs) (λ c. search needs) (λ c κs. search needs) (λ c. search needs) (λ c κs. search needs)
     returns
     returns-2)

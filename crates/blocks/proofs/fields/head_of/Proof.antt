@@ -1,12 +1,14 @@
--- `case_with` meets its contract.
+-- `head_of` meets its contract.
 -- Assumes nothing.
+use Rattle.blocks.specs.Block.{headOf}
 use borrow.Author.Needs.{needs}
-use Rattle.blocks.proofs.fields.case_with.Statement.{statement}
-use Rattle.blocks.proofs.fields.case_with.Tie as tie
+use Rattle.blocks.proofs.fields.head_of.Statement.{statement}
+use Rattle.blocks.proofs.fields.head_of.Tie as tie
 
 returns : tie.Need-returns
+unfolding headOf
 returns c =
-    let args = c .before .before .before .before .before .before .before .before .before .before .before .before .before .before .before .before .before .args in
+    let zero-case = c .before .before .before .before .before .before .before .before .before .before .before .before .before .before .before .before .before .zero-case in
     let u16-at = c .before .before .before .before .before .before .before .before .before .before .before .before .before .before .before .u16-at in
     let u32-at = c .before .before .before .before .before .before .before .before .before .before .before .before .before .before .u32-at in
     let u8-at = c .before .before .before .before .before .before .before .before .before .before .before .before .before .u8-at in
@@ -41,15 +43,16 @@ returns c =
       avc = u64-at .ensures i;
       transfer = u64-at2 .ensures i;
       contributions = u64-at3 .ensures i;
-      lines = args .lines;
+      lines = zero-case .ensures i .lines;
     }
 
-pub case-with-spec : {M : Type 1} → statement M
-case-with-spec =
+pub head-of-spec : {M : Type 1} → statement M
+head-of-spec =
     tie.close
     (tie.spec
     (λ c κs. search needs) (λ c κs. search needs) (λ c κs. search needs) (λ c κs. search needs)
     (λ c κs. search needs) (λ c κs. search needs) (λ c κs. search needs) (λ c κs. search needs)
     (λ c κs. search needs) (λ c κs. search needs) (λ c κs. search needs) (λ c κs. search needs)
     (λ c κs. search needs) (λ c κs. search needs) (λ c κs. search needs) (λ c κs. search needs)
+    (λ c κs. search needs)
     returns)
