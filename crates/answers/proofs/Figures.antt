@@ -1,4 +1,4 @@
--- The figures at the edges: every row, by computing the definitions.
+-- The figures at the edges and those of the exact value: every row, by computing the definitions.
 -- Assumes nothing.
 use mathlib.Core.List.{map}
 use mathlib.Core.Path.{_≡_, refl}
@@ -12,10 +12,19 @@ use Rattle.cases.specs.Form.{kindFault, lineFilled, reservedFilled, lineReserve
 use Rattle.factors.specs.Tables.{section1995Table, scheme2015Table, rowAt, rowIn}
 use Rattle.sums.specs.Rows.{rowOf, factorsOf}
 use Rattle.sums.specs.Sum.{valuedOn, deduction, credit, negativeFault, firstValue, debitValue, awardFault, grossBy, schemePaysFault}
+use Rattle.sums.specs.Exact.{exactAdded, exactSchemePays, exactDebit, factorSum}
 use Rattle.sums.specs.Payment.{underpin, payment}
 use Rattle.answers.specs.Answer.{factorFault, tests, grossOf, itemsOf, answerOf}
 use Rattle.answers.specs.Figures.{figures}
+use Rattle.answers.specs.ExactFigures.{exactFigures}
+
+both-hold :
+    (map (λ r. r .worked) figures ≡ map (λ r. r .stated) figures) × (map (λ r. r .worked) exactFigures ≡ map (λ r. r .stated) exactFigures)
+unfolding nearest sumBelow anyBelow howMany fewest daysIn isReal inYear age yearsAhead lineBy rulesOf kindFault lineFilled reservedFilled lineReservedFault headReservedFault reservedFault lineRangeFault datesRangeFault headRangeFault rangeFault section1995Table scheme2015Table rowAt rowIn rowOf factorsOf valuedOn deduction credit negativeFault firstValue debitValue awardFault grossBy schemePaysFault exactAdded exactSchemePays exactDebit factorSum underpin payment factorFault tests grossOf itemsOf answerOf
+both-hold = (refl, refl)
 
 pub figures-hold : map (λ r. r .worked) figures ≡ map (λ r. r .stated) figures
-unfolding nearest sumBelow anyBelow howMany fewest daysIn isReal inYear age yearsAhead lineBy rulesOf kindFault lineFilled reservedFilled lineReservedFault headReservedFault reservedFault lineRangeFault datesRangeFault headRangeFault rangeFault section1995Table scheme2015Table rowAt rowIn rowOf factorsOf valuedOn deduction credit negativeFault firstValue debitValue awardFault grossBy schemePaysFault underpin payment factorFault tests grossOf itemsOf answerOf
-figures-hold = refl
+figures-hold = both-hold .0
+
+pub exact-figures-hold : map (λ r. r .worked) exactFigures ≡ map (λ r. r .stated) exactFigures
+exact-figures-hold = both-hold .1

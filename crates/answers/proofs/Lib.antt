@@ -1,4 +1,5 @@
 pub mod Acceptance
 pub mod Falling
 pub mod Comparison
+pub mod Exact
 pub mod Figures

@@ -99,9 +99,13 @@ exampleC =
     member 2 (date 1 11 1952) (date 1 11 2015) (date 1 2 2016) 10496
     (lineOf (date 1 11 2017) (350000 of pension ∷ 118125 of survivor ∷ []))
 
--- kind 1, age 54, no revaluation
+-- kind 1, age 54, at a revaluation factor in ten-thousandths
+abbrev pub aged54At : ℕ → List Filled → Case
+aged54At revaluation some = member 1 (date 1 6 1967) (date 1 4 2012) (date 1 6 2021) revaluation (lineOf (date 0 0 0) some)
+
+-- without revaluation
 abbrev pub aged54 : List Filled → Case
-aged54 some = member 1 (date 1 6 1967) (date 1 4 2012) (date 1 6 2021) 10000 (lineOf (date 0 0 0) some)
+aged54 = aged54At 10000
 
 -- ten pence a year and a penny for the survivor, which come to 182p
 abbrev pub tenPence : Case

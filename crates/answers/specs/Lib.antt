@@ -1,3 +1,5 @@
 pub mod Answer
 pub mod Compare
 pub mod Figures
+pub mod Exact
+pub mod ExactFigures

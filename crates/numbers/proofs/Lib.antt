@@ -1,4 +1,5 @@
 pub mod Rounding
+pub mod Within
 pub mod Below
 pub mod Threshold
 pub mod Tests

@@ -23,7 +23,7 @@ pub revalued-none : (v : ℕ) → revalued v 0 ≡ 0
 unfolding nearest
 revalued-none v = rw (zero-mul v) refl
 
-no-value : (f : ℕ → Factors) (x : ℕ → Benefit → ℕ) (b : Benefit) → ((j : ℕ) → x j b ≡ 0) → valuedOn f x b ≡ 0
+pub no-value : (f : ℕ → Factors) (x : ℕ → Benefit → ℕ) (b : Benefit) → ((j : ℕ) → x j b ≡ 0) → valuedOn f x b ≡ 0
 unfolding valuedOn sumBelow
 no-value f x b h = rw (h 0, h 1, h 2, h 3) (simp zero-mul)
 

@@ -3,12 +3,13 @@
 use Prim.Native.Nat.{ℕ, _+_, _-_, _*_, _≤_, _<_}
 use mathlib.Core.Bool.{false}
 use mathlib.Core.Path.{_≡_, refl, sym, ap, _∙_}
-use native.Mathlib.Nat.{mul-le-mul-right, add-mul, zero-mul, add-zero, mul-right-comm}
+use native.Mathlib.Nat.{add-mul, zero-mul, add-zero, mul-right-comm}
 use native.Mathlib.Decide.{ℕ-discrete}
 use native.Mathlib.Omega.{arith}
 use lib.Dec.{lit<}
 use Rattle.numbers.specs.Rounding.{nearest, Within}
 use Rattle.numbers.proofs.Rounding.{nearest-near}
+use Rattle.numbers.proofs.Within.{within-mul}
 use Rattle.numbers.proofs.Below.{sum-same, sum-at}
 use Rattle.cases.specs.Entries.{line}
 use Rattle.cases.specs.declared.Line.{Line}
@@ -61,10 +62,6 @@ growth-near v x e =
 item-grows : (v x e p k : ℕ) → p ≤ revalued v x → (revalued v (x + e) - p) * k ≡ (revalued v x - p) * k + growth v x e * k
 item-grows v x e p k h =
     ap (λ (n : ℕ). n * k) (omega (arith, revalued-mono v {x = x} {y = x + e} (omega arith))) ∙ add-mul (revalued v x - p) (growth v x e) k
-
--- k times as much lies k times as far apart
-within-mul : (n a b k : ℕ) → Within n a b → Within (n * k) (a * k) (b * k)
-within-mul n a b k w = omega (arith, mul-le-mul-right k (w .0), mul-le-mul-right k (w .1), add-mul b n k, add-mul a n k)
 
 -- a total t that grows by g times k, where 10,000 times g is n to within 10,000: rounded to the penny it grows by n times k
 -- millionths to within k hundredths and a penny

@@ -1,3 +1,4 @@
 pub mod Rows
 pub mod Sum
+pub mod Exact
 pub mod Payment

@@ -8,8 +8,8 @@ use Rattle.refusals.specs.declared.Verdict.{Verdict}
 use Rattle.refusals.specs.declared.Verdict.the-variants.{Passed, Refused as Refusing}
 use Rattle.cases.specs.declared.Case.{Case}
 use Rattle.answers.specs.Answer.{answerOf, outcomeNumbers}
-use Rattle.answers.specs.Compare.{Demand3}
 use Rattle.answers.specs.declared.Answer.{Answer}
+use Rattle.answers.specs.declared.Outcome.{Outcome}
 use Rattle.answers.specs.declared.Outcome.the-variants.{Refused}
 
 -- the outcome beside the case number, or beside 0 where reading gave the refusal
@@ -24,6 +24,6 @@ blockAnswer s = answerBy (readingOf s .verdict) (readingOf s .case)
 abbrev pub answerNumbers : Answer → List ℕ
 answerNumbers a = a .number ∷ outcomeNumbers (a .outcome)
 
--- demand 3, of the case that a block holds, where it is read
-abbrev pub BlockDemand3 : List ℕ → Answer → Type 0
-BlockDemand3 s a = readingOf s .verdict ≡ Passed → Demand3 (readingOf s .case) (a .outcome)
+-- P of the case that a block holds and of its outcome, where the block is read
+abbrev pub WhereRead : (Case → Outcome → Type 0) → List ℕ → Answer → Type 0
+WhereRead P s a = readingOf s .verdict ≡ Passed → P (readingOf s .case) (a .outcome)

@@ -1,6 +1,8 @@
 // Reading a block and valuing its case.
 ghost use mathlib.Core.Path.{_≡_};
-ghost use Rattle.valuing.specs.Block.{blockAnswer, answerNumbers, BlockDemand3};
+ghost use Rattle.answers.specs.Compare.{Demand3};
+ghost use Rattle.answers.specs.Exact.{GrossNearExact};
+ghost use Rattle.valuing.specs.Block.{blockAnswer, answerNumbers, WhereRead};
 use crate::valuation::value_well_formed;
 use answers::Answer;
 use answers::Outcome;
@@ -12,7 +14,8 @@ use refusals::Verdict;
 pub fn value_block(b: &[u8]) -> Answer
     ensures answer { λ r. ⌜ r ≡ blockAnswer (now (b .entry)) ⌝ }
     ensures numbers { λ r. ⌜ answerNumbers r ≡ answerNumbers (blockAnswer (now (b .entry))) ⌝ }
-    ensures compared { λ r. ⌜ BlockDemand3 (now (b .entry)) r ⌝ }
+    ensures compared { λ r. ⌜ WhereRead Demand3 (now (b .entry)) r ⌝ }
+    ensures near { λ r. ⌜ WhereRead GrossNearExact (now (b .entry)) r ⌝ }
 {
     let reading = read_block(b);
     let verdict = reading.verdict;

@@ -4,6 +4,7 @@ ghost use Rattle.refusals.specs.Tests.{first};
 ghost use Rattle.cases.specs.Form.{WellFormed};
 ghost use Rattle.answers.specs.Answer.{amountTests, outcomeBy, answerOf, outcomeNumbers};
 ghost use Rattle.answers.specs.Compare.{Demand3};
+ghost use Rattle.answers.specs.Exact.{GrossNearExact};
 use crate::pay::priced;
 use crate::sum::case_totals;
 use answers::Outcome;
@@ -43,6 +44,7 @@ pub fn value(c: Case) -> Outcome
     ensures answer { λ r. ⌜ r ≡ answerOf c ⌝ }
     ensures numbers { λ r. ⌜ outcomeNumbers r ≡ outcomeNumbers (answerOf c) ⌝ }
     ensures compared { λ r. ⌜ Demand3 c r ⌝ }
+    ensures near { λ r. ⌜ GrossNearExact c r ⌝ }
 {
     match form_verdict(c, false) {
         Verdict::Refused(why) => Outcome::Refused(why),

@@ -6,6 +6,7 @@
 
 mod breaking;
 mod divorce;
+mod exact;
 mod examples;
 mod figures;
 mod generator;
@@ -18,6 +19,7 @@ mod section_2008;
 mod tables;
 mod trial;
 
+use exact::Nearness;
 use library::*;
 use model::*;
 use rules::{Seen, DIVORCE_RULES, RULES};
@@ -41,6 +43,7 @@ struct Reached {
     rows: BTreeMap<(usize, i64), u64>,
     /// In the order of their names.
     rules: Vec<u64>,
+    nearness: Nearness,
     longest_line: usize,
 }
 
@@ -154,7 +157,11 @@ fn compare(model: &Model, blocks: u64, seed: u64) -> Result<Reached, String> {
             reached.count_rules(model, trial.block(), &answer);
         }
         match answer {
-            Ok(_) => reached.count_payment(model, trial.block()),
+            Ok(payment) => {
+                reached.count_payment(model, trial.block());
+                let taken = reached.nearness.take(model, &case_of(trial.block()), payment.gross);
+                taken.map_err(|e| format!("{e}; seed {seed}, block {index}"))?;
+            }
             Err(refusal) => reached.refusals[refusal] += 1,
         }
     }
@@ -200,9 +207,10 @@ fn compare_and_report(blocks: u64, seed: u64, factors: &str) -> Result<(), Strin
     let start = Instant::now();
     let days = figures::step_through_calendar()?;
     let figures = figures::try_figures(&model)?;
-    let reached = compare(&model, blocks, seed)?;
+    let mut reached = compare(&model, blocks, seed)?;
     let compared = start.elapsed();
-    let tried = properties::try_all(&model, blocks, seed)?;
+    let tried = properties::try_all(&model, blocks, seed, &mut reached.nearness)?;
+    let exact = exact::try_exact(&model, &reached.nearness, (blocks / 1_000).max(300), seed)?;
     println!("{:<30}{:>10}", "blocks compared", blocks);
     reached.print();
     println!("{:<30}{:>10}", "days of the calendar stepped", days);
@@ -210,6 +218,13 @@ fn compare_and_report(blocks: u64, seed: u64, factors: &str) -> Result<(), Strin
     println!("properties tried");
     for (name, n) in &tried {
         println!("  {name:<28}{n:>10}");
+    }
+    println!("distance from the exact value");
+    for (name, n) in &exact.counts {
+        println!("  {name:<30}{n:>8}");
+    }
+    for (name, share) in &exact.shares {
+        println!("  {name:<30}{share:>8.4}");
     }
     let all = start.elapsed().as_secs_f64();
     println!("seed {seed}; comparing took {:.1} s, everything {all:.1} s", compared.as_secs_f64());

@@ -2,6 +2,7 @@
 //! the place and the lengths.
 
 use crate::divorce::most_within;
+use crate::exact::Nearness;
 use crate::generator::*;
 use crate::library::*;
 use crate::model::*;
@@ -11,7 +12,7 @@ use crate::{hex, show_difference, LEAST_REACHED};
 use std::collections::BTreeMap;
 
 /// What a line of the library says was paid, in pence, and its items, in hundredths of a penny.
-struct Paid {
+pub struct Paid {
     paid: i128,
     items: [i128; 4],
     underpin: i128,
@@ -27,7 +28,7 @@ fn money(word: &str, decimals: usize) -> Option<i128> {
 }
 
 /// Reads a line, word by word; no other line than a payment is read.
-fn parse(line: &str) -> Option<Paid> {
+pub fn parse(line: &str) -> Option<Paid> {
     let words: Vec<&str> = line.strip_suffix('\n')?.split(' ').collect();
     let names: Vec<&str> = words.get(2..)?.iter().step_by(2).copied().collect();
     if names != ["pay", "pension", "lump", "survivor", "deduct", "underpin", "avc"] {
@@ -53,9 +54,14 @@ impl Paid {
     fn follows(&self, debit_value: i128) -> bool {
         self.paid == (self.first_value() - debit_value).max(self.underpin) + self.avc
     }
+
+    /// The gross value of a case whose underpin is 0.
+    pub fn gross_without_underpin(&self) -> i128 {
+        self.paid - self.avc
+    }
 }
 
-fn line_of(lent: &mut Lent, block: &Block) -> String {
+pub fn line_of(lent: &mut Lent, block: &Block) -> String {
     let left = lent.call(&block.0, 1, LEAST_BUFFER, 0);
     String::from_utf8_lossy(&left.buffer[..left.length.min(LEAST_BUFFER)]).into_owned()
 }
@@ -148,11 +154,12 @@ fn close(model: &Model, smaller: &Block, entry: &Entry, extra: i128, difference:
     (difference * 1_000_000 - exact).abs() <= (factor + 100) * 10_000
 }
 
-/// A pair's kind and entry, and whether the larger has a debit value.
+/// A pair's kind and entry, whether the larger has a debit value, and both blocks with their gross values.
 struct Tried {
     kind: u64,
     entry: Entry,
     divorced: bool,
+    accepted: [(Block, i128); 2],
 }
 
 /// Tries a pair that differs in one of these fields.
@@ -186,7 +193,8 @@ fn try_pair(model: &Model, random: &mut Random, lent: &mut Lent, fields: &[usize
     if !benefit && after.paid > before.paid {
         return failed("paid more for a larger reduction");
     }
-    Ok(Tried { kind: smaller.kind(), entry, divorced: debit_value(&sums[1]) > 0 })
+    let (kind, divorced) = (smaller.kind(), debit_value(&sums[1]) > 0);
+    Ok(Tried { kind, entry, divorced, accepted: [(smaller, gross[0]), (larger, gross[1])] })
 }
 
 /// Every order of so many things; the first is the one in which they stand.
@@ -253,7 +261,7 @@ fn with_line_alone(block: &Block, place: usize) -> Block {
 /// The lines of an accepted case in every order. In its own the case is paid, and its items are the sums of those that the library
 /// gives for each line alone. In any other it is refused: with 6 where line 1 is not first, since it is then not before the first,
 /// else with 17. The second calculator's items and divorce debits, summed line by line, are the same in every order.
-fn try_orders(model: &Model, random: &mut Random, lent: &mut Lent) -> Result<u64, String> {
+fn try_orders(model: &Model, random: &mut Random, lent: &mut Lent, nearness: &mut Nearness) -> Result<u64, String> {
     let block = draw_lines(model, random);
     let failed = |what: &str, order: &[usize]| format!("{what}: lines {order:?} of {}", hex(&block.0));
     let whole = parse(&line_of(lent, &block)).ok_or_else(|| failed("an accepted case is not paid", &[]))?;
@@ -261,11 +269,13 @@ fn try_orders(model: &Model, random: &mut Random, lent: &mut Lent) -> Result<u64
     if !whole.follows(debit_value(&sums)) {
         return Err(failed("steps 5 and 6 do not give the payment", &[]));
     }
+    nearness.take_block(model, &block.0)?;
     let orders = orders(block.count());
     let mut summed = [0; 4];
     for place in 0..block.count() {
-        let alone = line_of(lent, &with_line_alone(&block, place));
-        let line = parse(&alone).ok_or_else(|| failed("a line alone is not paid", &[place]))?;
+        let alone = with_line_alone(&block, place);
+        nearness.take_block(model, &alone.0)?;
+        let line = parse(&line_of(lent, &alone)).ok_or_else(|| failed("a line alone is not paid", &[place]))?;
         summed = std::array::from_fn(|item| summed[item] + line.items[item]);
     }
     if summed != whole.items {
@@ -347,7 +357,8 @@ fn try_lengths(model: &Model, lent: &mut Lent, bytes: &[u8]) -> Result<u64, Stri
     Ok(LONGEST_BLOCK as u64 + 1)
 }
 
-fn try_blocks(model: &Model, random: &mut Random, lent: &mut Lent, rounds: u64) -> Result<[u64; 3], String> {
+fn try_blocks(model: &Model, rounds: u64, seed: u64, nearness: &mut Nearness) -> Result<[u64; 3], String> {
+    let (random, lent) = (&mut Random::new(seed, 3, 0), &mut Lent::new());
     let mut tried = [0; 3];
     for round in 0..rounds {
         let mut block = acceptable(model, random);
@@ -356,6 +367,7 @@ fn try_blocks(model: &Model, random: &mut Random, lent: &mut Lent, rounds: u64) 
             change(model, random, &mut block);
         }
         block.seal();
+        nearness.take_block(model, &block.0)?;
         let mut longer = block.0.to_vec();
         longer.extend((BLOCK_LENGTH..LONGEST_BLOCK).map(|_| random.next() as u8));
         tried[0] += try_buffers(model, lent, &block.0, random.next() as u32)?;
@@ -382,7 +394,13 @@ fn entries_of(kind: u64, fields: &[usize]) -> u64 {
 
 /// Tries so many pairs that differ in one of these fields. Each entry that a case of each kind may have there must be drawn as
 /// often as each rule must be reached.
-fn try_pairs(model: &Model, pairs: u64, seed: u64, stream: u64, fields: &[usize]) -> Result<Pairs, String> {
+fn try_pairs(
+    model: &Model,
+    pairs: u64,
+    seed: u64,
+    (stream, fields): (u64, &[usize]),
+    nearness: &mut Nearness,
+) -> Result<Pairs, String> {
     let lent = &mut Lent::new();
     let mut drawn: BTreeMap<(u64, usize, usize), u64> = BTreeMap::new();
     let mut divorced = 0;
@@ -391,6 +409,9 @@ fn try_pairs(model: &Model, pairs: u64, seed: u64, stream: u64, fields: &[usize]
         let tried = try_pair(model, random, lent, fields).map_err(|e| format!("{e}; seed {seed}, pair {index}"))?;
         *drawn.entry((tried.kind, tried.entry.start, tried.entry.field)).or_insert(0) += 1;
         divorced += tried.divorced as u64;
+        for (block, gross) in &tried.accepted {
+            nearness.take(model, &case_of(&block.0), *gross)?;
+        }
     }
     let entries: u64 = KINDS.iter().map(|&kind| entries_of(kind, fields)).sum();
     let (found, least_drawn) = (drawn.len() as u64, *drawn.values().min().unwrap());
@@ -401,17 +422,23 @@ fn try_pairs(model: &Model, pairs: u64, seed: u64, stream: u64, fields: &[usize]
     Ok(Pairs { divorced, of_kind: KINDS.map(of), least_drawn })
 }
 
-fn try_orders_of_many(model: &Model, cases: u64, seed: u64) -> Result<u64, String> {
+fn try_orders_of_many(model: &Model, cases: u64, seed: u64, nearness: &mut Nearness) -> Result<u64, String> {
     let lent = &mut Lent::new();
     (0..cases).try_fold(0, |tried, index| {
         let random = &mut Random::new(seed, 4, index);
-        let more = try_orders(model, random, lent).map_err(|e| format!("{e}; seed {seed}, order {index}"))?;
+        let more = try_orders(model, random, lent, nearness);
+        let more = more.map_err(|e| format!("{e}; seed {seed}, order {index}"))?;
         Ok(tried + more)
     })
 }
 
-/// Every property, with how often it was tried.
-pub fn try_all(model: &Model, blocks: u64, seed: u64) -> Result<Vec<(&'static str, u64)>, String> {
+/// Every property, with how often it was tried. The accepted cases that it draws are taken in for their distance from the exact value.
+pub fn try_all(
+    model: &Model,
+    blocks: u64,
+    seed: u64,
+    nearness: &mut Nearness,
+) -> Result<Vec<(&'static str, u64)>, String> {
     let pairs = (blocks / 8).max(1_000);
     let mut tried = Vec::new();
     for (name, stream, fields) in [
@@ -419,15 +446,15 @@ pub fn try_all(model: &Model, blocks: u64, seed: u64) -> Result<Vec<(&'static st
         ("pairs, larger reduction", 5, &at::REDUCTIONS[..]),
         ("pairs, larger divorce debit", 6, &at::DIVORCE[..]),
     ] {
-        let Pairs { divorced, of_kind, least_drawn } = try_pairs(model, pairs, seed, stream, fields)?;
+        let Pairs { divorced, of_kind, least_drawn } = try_pairs(model, pairs, seed, (stream, fields), nearness)?;
         tried.extend([(name, pairs), ("  with divorce debits", divorced)]);
         tried.extend(["  of kind 1", "  of kind 2", "  of kind 3"].into_iter().zip(of_kind));
         tried.push(("  of each entry, at least", least_drawn));
     }
-    tried.push(("lines in another order", try_orders_of_many(model, (blocks / 50).max(1_000), seed)?));
-    let (random, lent) = (&mut Random::new(seed, 3, 0), &mut Lent::new());
+    tried.push(("lines in another order", try_orders_of_many(model, (blocks / 50).max(1_000), seed, nearness)?));
+    let rounds = (blocks / 5_000).clamp(20, 1_000);
     let [buffers, places, lengths] =
-        try_blocks(model, random, lent, (blocks / 5_000).clamp(20, 1_000)).map_err(|e| format!("{e}, seed {seed}"))?;
+        try_blocks(model, rounds, seed, nearness).map_err(|e| format!("{e}, seed {seed}"))?;
     tried.extend([("buffers of 0 to 600 bytes", buffers), ("places", places), ("blocks of 0 to 600 bytes", lengths)]);
     Ok(tried)
 }

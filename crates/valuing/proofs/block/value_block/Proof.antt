@@ -7,10 +7,13 @@ use denote.Ref.{now}
 use Rattle.blocks.specs.Reading.{readingOf}
 use Rattle.blocks.specs.declared.Reading.{Reading}
 use Rattle.blocks.proofs.Order.{read-well-formed}
-use Rattle.valuing.specs.Block.{blockAnswer, answerNumbers, BlockDemand3}
+use Rattle.valuing.specs.Block.{blockAnswer, answerNumbers, WhereRead}
+use Rattle.answers.specs.Compare.{Demand3}
+use Rattle.answers.specs.Exact.{GrossNearExact}
 use Rattle.answers.specs.declared.Answer.{Answer}
 use Rattle.answers.specs.declared.Outcome.the-variants.{Refused}
 use Rattle.answers.proofs.Comparison.{demand3}
+use Rattle.answers.proofs.Exact.{gross-near-exact}
 use borrow.Author.Needs.{needs}
 use Rattle.valuing.proofs.block.value_block.Statement.{statement}
 use Rattle.valuing.proofs.block.value_block.Tie as tie
@@ -22,11 +25,15 @@ value-well-formed-requires c κs =
     let enum-told = c .enum-told in
     rw (read-block .ensures .0) (read-well-formed (now (args .b)) (sym (ap (λ (r : Reading). r .verdict) (read-block .ensures .0)) ∙ enum-told .given .1))
 
--- the answer gives its numbers and demand 3
+-- the answer gives its numbers, demand 3 and nearness to the exact value
 promised :
-    (s : List ℕ) (a : Answer) → a ≡ blockAnswer s → (a ≡ blockAnswer s) × ((answerNumbers a ≡ answerNumbers (blockAnswer s)) × BlockDemand3 s a)
+    (s : List ℕ) (a : Answer) → a ≡ blockAnswer s →
+    (a ≡ blockAnswer s) × ((answerNumbers a ≡ answerNumbers (blockAnswer s)) × (WhereRead Demand3 s a × WhereRead GrossNearExact s a))
 unfolding blockAnswer
-promised s a e = (e, (ap answerNumbers e, λ read. rw (e, read) (demand3 (readingOf s .case))))
+promised s a e = (
+  e,
+  (ap answerNumbers e, (λ read. rw (e, read) (demand3 (readingOf s .case)), λ read. rw (e, read) (gross-near-exact (readingOf s .case)))),
+)
 
 returns : tie.Need-returns
 unfolding blockAnswer

@@ -7,9 +7,11 @@ use Rattle.cases.specs.Form.{formTests}
 use Rattle.cases.specs.declared.Case.{Case}
 use Rattle.answers.specs.Answer.{answerOf, outcomeNumbers}
 use Rattle.answers.specs.Compare.{Demand3}
+use Rattle.answers.specs.Exact.{GrossNearExact}
 use Rattle.answers.specs.declared.Outcome.{Outcome}
 use Rattle.valuing.proofs.Stages.{by-form}
 use Rattle.answers.proofs.Comparison.{demand3}
+use Rattle.answers.proofs.Exact.{gross-near-exact}
 use borrow.Author.Needs.{needs}
 use Rattle.valuing.proofs.valuation.value.Statement.{statement}
 use Rattle.valuing.proofs.valuation.value.Tie as tie
@@ -21,9 +23,11 @@ value-well-formed-requires c κs =
     let enum-told = c .enum-told in
     first-none (formTests false (args .c)) (sym (form-verdict .ensures .0) ∙ enum-told .given .1)
 
--- the answer gives its numbers and demand 3
-promised : (k : Case) (r : Outcome) → r ≡ answerOf k → (r ≡ answerOf k) × ((outcomeNumbers r ≡ outcomeNumbers (answerOf k)) × Demand3 k r)
-promised k r e = (e, (ap outcomeNumbers e, subst (Demand3 k) (sym e) (demand3 k)))
+-- the answer gives its numbers, demand 3 and nearness to the exact value
+promised :
+    (k : Case) (r : Outcome) → r ≡ answerOf k →
+    (r ≡ answerOf k) × ((outcomeNumbers r ≡ outcomeNumbers (answerOf k)) × (Demand3 k r × GrossNearExact k r))
+promised k r e = (e, (ap outcomeNumbers e, (subst (Demand3 k) (sym e) (demand3 k), subst (GrossNearExact k) (sym e) (gross-near-exact k))))
 
 returns : tie.Need-returns
 returns c =
