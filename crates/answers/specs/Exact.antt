@@ -8,7 +8,7 @@ use Rattle.sums.specs.Payment.{payment}
 use Rattle.answers.specs.declared.Outcome.{Outcome}
 use Rattle.answers.specs.Answer.{Accepted, grossOf, paid}
 
--- of a case c that valuing answers with r: accepted, it is paid what steps 5 and 6 make of its gross value, and that lies near the
--- exact value
+-- of a case c that valuing answers with r: if c is accepted, r pays what steps 5 and 6 make of the gross value, and the gross value
+-- lies near the exact value
 abbrev pub GrossNearExact : Case → Outcome → Type 0
 GrossNearExact c r = Accepted c → (paid r ≡ payment c (grossOf c)) × NearExact (factorsOf c) c (grossOf c)

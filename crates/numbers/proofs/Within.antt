@@ -10,7 +10,7 @@ use Rattle.numbers.specs.Below.{sumBelow}
 pub within-mul : (n a b k : ℕ) → Within n a b → Within (n * k) (a * k) (b * k)
 within-mul n a b k w = omega (arith, mul-le-mul-right k (w .0), mul-le-mul-right k (w .1), add-mul b n k, add-mul a n k)
 
--- of sums the distances add up
+-- sums lie no further apart than their terms do together
 pub sum-within : (n : ℕ) (d g h : ℕ → ℕ) → ((j : ℕ) → j < n → Within (d j) (g j) (h j)) → Within (sumBelow n d) (sumBelow n g) (sumBelow n h)
 unfolding sumBelow
 sum-within zero d g h o = omega arith

@@ -12,7 +12,7 @@ use Rattle.numbers.specs.Rounding.{nearest}
 use Rattle.cases.specs.Entries.{line}
 use Rattle.cases.specs.declared.Case.{Case}
 use Rattle.factors.specs.declared.Factors.{Factors}
-use Rattle.sums.specs.Sum.{Benefit, memberPension, lumpSum, survivorPension, revalued, debited, revaluedDebit, valuedOn, firstValue, debitValue, awardFault, grossBy}
+use Rattle.sums.specs.Sum.{Benefit, memberPension, lumpSum, survivorPension, revalued, debited, overBenefits, valuedOn, firstValue, debitValue, awardFault, grossBy}
 
 pub gross-and-debit : (f : ℕ → Factors) (c : Case) → awardFault f c ≡ false → grossBy f c + debitValue f c ≡ firstValue f c
 unfolding awardFault grossBy
@@ -28,12 +28,16 @@ unfolding valuedOn sumBelow
 no-value f x b h = rw (h 0, h 1, h 2, h 3) (simp zero-mul)
 
 module _ (f : ℕ → Factors) (c : Case) (none : (b : Benefit) (j : ℕ) → debited b (line c j) ≡ 0) where
+  -- so is what g makes of debits of 0, where g makes 0 of 0
+  pub no-debits : (g : ℕ → ℕ) → g 0 ≡ 0 → overBenefits (valuedOn f (λ i b. g (debited b (line c i)))) ≡ 0
+  no-debits g e = omega (arith, value memberPension, value lumpSum, value survivorPension)
+    where
+      value : (b : Benefit) → valuedOn f (λ i d. g (debited d (line c i))) b ≡ 0
+      value b = no-value f _ b (λ j. rw (none b j) e)
+
   no-debit : debitValue f c ≡ 0
   unfolding debitValue nearest
-  no-debit = rw (value memberPension, value lumpSum, value survivorPension) refl
-    where
-      value : (b : Benefit) → valuedOn f (λ j. revaluedDebit (c .revaluation) (line c j)) b ≡ 0
-      value b = no-value f _ b (λ j. rw (none b j) (revalued-none (c .revaluation)))
+  no-debit = rw (no-debits (revalued (c .revaluation)) (revalued-none (c .revaluation))) refl
 
   pub without-divorce : (awardFault f c ≡ false) × (grossBy f c ≡ firstValue f c)
   unfolding awardFault grossBy

@@ -2,22 +2,24 @@
 -- by half a penny, which its factor multiplies, and the first value and the debit value by half a penny each.
 -- Assumes nothing.
 use Prim.Native.Nat.{ℕ, _+_, _-_, _*_, _<_}
-use mathlib.Core.Bool.{false}
+use mathlib.Core.Bool.{false, cond}
 use mathlib.Core.Path.{_≡_, refl}
 use native.Mathlib.Nat.{add-mul, mul-right-comm, zero-mul}
 use native.Mathlib.Omega.{arith}
-use lib.Dec.{lit<}
+use lib.Dec.{lit<, leb}
 use Rattle.numbers.specs.Rounding.{nearest, Within}
+use Rattle.numbers.specs.Below.{sumBelow}
 use Rattle.numbers.proofs.Rounding.{nearest-half}
 use Rattle.numbers.proofs.Within.{within-mul, sum-within}
 use Rattle.numbers.proofs.Below.{sum-plus, sum-times}
 use Rattle.cases.specs.Entries.{line}
 use Rattle.cases.specs.declared.Case.{Case}
+use Rattle.factors.specs.Rows.{noFactors}
 use Rattle.factors.specs.declared.Factors.{Factors}
 use Rattle.sums.specs.Sum.{Benefit, memberPension, lumpSum, survivorPension, entered, revalued, schemePaysOn, reduced, debited, revaluedDebit, factor, overLines, overBenefits, valuedOn, deduction, credit, negativeFault, firstValue, debitValue, awardFault, grossBy, schemePaysFault}
-use Rattle.sums.specs.Exact.{exactAdded, exactSchemePays, exactDeduction, exactDebit, exactTaken, factorSum, NearExact}
+use Rattle.sums.specs.Exact.{exactAdded, exactSchemePays, exactDeduction, exactDebit, WithinOfExact, factorSum, exactBound, NearExact}
 use Rattle.sums.proofs.Covered.{covered, not-negative}
-use Rattle.sums.proofs.Divorce.{gross-and-debit, no-value, without-divorce}
+use Rattle.sums.proofs.Divorce.{gross-and-debit, no-value, no-debits, without-divorce}
 
 revalued-near : (v x : ℕ) → Within 5000 (revalued v x * 10000) (x * v)
 revalued-near v x = omega (arith, nearest-half 10000 (x * v) (lit< tt))
@@ -61,9 +63,9 @@ module _
     values-near = omega (arith, value-near memberPension, value-near lumpSum, value-near survivorPension)
 
 module _ (f : ℕ → Factors) (c : Case) where
-  debit-exact : Within (5000 * factorSum f + 500000) (debitValue f c * 1000000) (exactDebit f c)
+  debit-near-exact : Within (5000 * factorSum f + 500000) (debitValue f c * 1000000) (exactDebit f c)
   unfolding debitValue exactDebit
-  debit-exact = omega (arith, total-near (5000 * factorSum f) (overBenefits value) 0 (exactDebit f c) near)
+  debit-near-exact = omega (arith, total-near (5000 * factorSum f) (overBenefits value) 0 (exactDebit f c) near)
     where
       value : Benefit → ℕ
       value = valuedOn f (λ i. revaluedDebit (c .revaluation) (line c i))
@@ -83,26 +85,32 @@ module _ (f : ℕ → Factors) (c : Case) where
           )
 
   module _ (noExcess : schemePaysFault c ≡ false) (notNegative : negativeFault f c ≡ false) where
-    first-exact :
+    first-near-exact :
         Within (5000 * factorSum f + 500000) (firstValue f c * 1000000 + (exactSchemePays f c + exactDeduction f c)) (exactAdded f c)
     unfolding firstValue credit exactSchemePays exactAdded
-    first-exact = total-near _ (credit f c - deduction f c) _ _ (omega (arith, near, not-negative f c notNegative))
+    first-near-exact = total-near _ (credit f c - deduction f c) _ _ (omega (arith, near, not-negative f c notNegative))
       where
         near : Within (5000 * factorSum f) (credit f c * 10000 + exactSchemePays f c) (exactAdded f c)
         near =
             values-near f _ _ _
             (λ b j h. omega (arith, revalued-near (c .revaluation) (entered b (line c j)), covered c noExcess j h b))
 
-    pub gross-exact : awardFault f c ≡ false → NearExact f c (grossBy f c)
-    gross-exact noAward = omega (arith, first-exact, debit-exact, gross-and-debit f c noAward)
+    pub gross-near-exact : awardFault f c ≡ false → NearExact f c (grossBy f c)
+    gross-near-exact noAward = omega (arith, first-near-exact, debit-near-exact, gross-and-debit f c noAward)
 
     -- without a divorce debit, each factor counts once, and there is one rounding to the penny instead of two
-    pub gross-exact-without-divorce :
-        ((b : Benefit) (j : ℕ) → debited b (line c j) ≡ 0) →
-        Within (factorSum f * 5000 + 500000) (grossBy f c * 1000000 + exactTaken f c) (exactAdded f c)
+    pub near-exact-without-divorce :
+        ((b : Benefit) (j : ℕ) → debited b (line c j) ≡ 0) → WithinOfExact f c (factorSum f * 5000 + 500000) (grossBy f c)
     unfolding exactDebit
-    gross-exact-without-divorce none =
-        omega (arith, first-exact, without-divorce f c none .1, value memberPension, value lumpSum, value survivorPension)
-      where
-        value : (b : Benefit) → valuedOn f (λ i d. debited d (line c i) * c .revaluation) b ≡ 0
-        value b = no-value f _ b (λ j. rw (none b j) (zero-mul (c .revaluation)))
+    near-exact-without-divorce none =
+        omega (
+          arith,
+          first-near-exact,
+          without-divorce f c none .1,
+          no-debits f c none (λ x. x * c .revaluation) (zero-mul (c .revaluation)),
+        )
+
+-- a line with the factors of kind 1 at 54 has a bound of 21.43p
+bound-at-54 : exactBound (λ i. cond (leb 1 i) noFactors (record { pension = 1805; lump = 88; survivor = 150; deduction = 1242 })) ≡ 21430000
+unfolding factorSum sumBelow
+bound-at-54 = refl

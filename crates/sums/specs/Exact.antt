@@ -1,6 +1,6 @@
 -- The exact value of a case (change request No. 14): the sum of `Sum.antt` worked as a fraction, with nothing rounded, under any
--- factors f; and how near to it a gross value is to lie. All is in millionths of a penny, of which the exact value is a whole number:
--- the revaluation factor is in ten-thousandths, the other factors are in hundredths.
+-- factors f; and the bound on a gross value's distance from it. Values are in millionths of a penny, which makes the exact value a
+-- whole number: the revaluation factor is in ten-thousandths, the other factors are in hundredths.
 -- Assumes nothing.
 use Prim.Native.Nat.{ℕ, _+_, _*_}
 use Rattle.numbers.specs.Rounding.{Within}
@@ -12,7 +12,7 @@ use Rattle.sums.specs.Sum.{Benefit, entered, schemePaysOn, debited, fact
 -- The exact value is what is added less what is taken off. The two are kept apart, since it may lie below zero where the total of
 -- rounded amounts does not
 module _ (f : ℕ → Factors) (c : Case) where
-  -- 1 and 3: added is what is entered of each benefit, times the revaluation factor, times the benefit's factor
+  -- 1 and 3: what is entered of each benefit, times the revaluation factor, times the benefit's factor
   unfoldable pub exactAdded : ℕ
   exactAdded = overBenefits (valuedOn f (λ i b. entered b (line c i) * c .revaluation))
 
@@ -31,16 +31,23 @@ module _ (f : ℕ → Factors) (c : Case) where
   abbrev pub exactTaken : ℕ
   exactTaken = exactSchemePays + exactDeduction + exactDebit
 
+  -- g pence and the exact value lie no further apart than n millionths of a penny
+  abbrev pub WithinOfExact : ℕ → ℕ → Type 0
+  WithinOfExact n g = Within n (g * 1000000 + exactTaken) exactAdded
+
 module _ (f : ℕ → Factors) where
   -- the factors for pension, lump sum and survivor's pension over all lines, in hundredths; those of a line past the count are zero
   unfoldable pub factorSum : ℕ
   factorSum = overBenefits (λ b. overLines (λ i. factor b (f i)))
 
-  -- the sum of all factors used on revalued amounts: once on the benefits, once on the divorce debits
+  -- the sum of the factors used on revalued amounts: once on the benefits, once on the divorce debits
   abbrev pub factorsUsed : ℕ
   factorsUsed = factorSum + factorSum
 
--- g pence lie no further from the exact value than half the sum of all factors used on revalued amounts, plus one penny. A factor is
--- in hundredths, and half a hundredth of a penny is 5,000 millionths
+  -- half of that sum, in pence, and one penny; half a hundredth of a penny is 5,000 millionths
+  abbrev pub exactBound : ℕ
+  exactBound = factorsUsed * 5000 + 1000000
+
+-- g pence lie within the bound
 abbrev pub NearExact : (ℕ → Factors) → Case → ℕ → Type 0
-NearExact f c g = Within (factorsUsed f * 5000 + 1000000) (g * 1000000 + exactTaken f c) (exactAdded f c)
+NearExact f c g = WithinOfExact f c (exactBound f) g

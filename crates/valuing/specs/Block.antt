@@ -24,6 +24,6 @@ blockAnswer s = answerBy (readingOf s .verdict) (readingOf s .case)
 abbrev pub answerNumbers : Answer → List ℕ
 answerNumbers a = a .number ∷ outcomeNumbers (a .outcome)
 
--- P of the case that a block holds and of its outcome, where the block is read
+-- P holds of the case in a block and of its outcome, where the block is read
 abbrev pub WhereRead : (Case → Outcome → Type 0) → List ℕ → Answer → Type 0
 WhereRead P s a = readingOf s .verdict ≡ Passed → P (readingOf s .case) (a .outcome)

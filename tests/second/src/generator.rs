@@ -123,8 +123,13 @@ fn power(base: u64, exponent: u32) -> u64 {
     (0..exponent).fold(1, |product, _| product * base % 10_000)
 }
 
-/// The amount below 10,000 that, revalued, has these ten-thousandths of a penny over. The revaluation is prime to 10,000.
-pub fn amount_leaving(revaluation: u64, over: u64) -> u64 {
+/// Whether the revaluation has no factor in common with 10,000.
+pub fn is_coprime(revaluation: u64) -> bool {
+    revaluation % 2 != 0 && revaluation % 5 != 0
+}
+
+/// The amount below 10,000 that, revalued, has these ten-thousandths of a penny over. The revaluation is coprime to 10,000.
+pub fn amount_with_over(revaluation: u64, over: u64) -> u64 {
     // 4,000 is the order of the numbers prime to 10,000, so this is the inverse: 3,999 = 31 * 129.
     let inverse = power(power(revaluation % 10_000, 31), 129);
     inverse * over % 10_000
@@ -132,11 +137,11 @@ pub fn amount_leaving(revaluation: u64, over: u64) -> u64 {
 
 /// An amount whose product with the revaluation lies within one of a half penny, where there is one.
 fn amount_at_half(random: &mut Random, revaluation: u64) -> u64 {
-    if revaluation % 2 == 0 || revaluation % 5 == 0 {
+    if !is_coprime(revaluation) {
         return 2_500 * random.below(400_001);
     }
     let target = random.pick(&[4_999, 5_000, 5_001]);
-    amount_leaving(revaluation, target) + 10_000 * random.below(99_999)
+    amount_with_over(revaluation, target) + 10_000 * random.below(99_999)
 }
 
 pub fn amount(random: &mut Random, revaluation: u64) -> u64 {

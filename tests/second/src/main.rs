@@ -157,12 +157,13 @@ fn compare(model: &Model, blocks: u64, seed: u64) -> Result<Reached, String> {
             reached.count_rules(model, trial.block(), &answer);
         }
         match answer {
-            Ok(payment) => {
-                reached.count_payment(model, trial.block());
-                let taken = reached.nearness.take(model, &case_of(trial.block()), payment.gross);
-                taken.map_err(|e| format!("{e}; seed {seed}, block {index}"))?;
-            }
+            Ok(_) => reached.count_payment(model, trial.block()),
             Err(refusal) => reached.refusals[refusal] += 1,
+        }
+        // A short buffer is refused whether or not the case is accepted.
+        if matches!(answer, Ok(_) | Err(15)) {
+            let checked = reached.nearness.check_block(model, trial.block());
+            checked.map_err(|e| format!("{e}; seed {seed}, block {index}"))?;
         }
     }
     Ok(reached)
@@ -210,7 +211,7 @@ fn compare_and_report(blocks: u64, seed: u64, factors: &str) -> Result<(), Strin
     let mut reached = compare(&model, blocks, seed)?;
     let compared = start.elapsed();
     let tried = properties::try_all(&model, blocks, seed, &mut reached.nearness)?;
-    let exact = exact::try_exact(&model, &reached.nearness, (blocks / 1_000).max(300), seed)?;
+    let exact = exact::try_exact(&model, &reached.nearness, (blocks / 3_000).max(100), seed)?;
     println!("{:<30}{:>10}", "blocks compared", blocks);
     reached.print();
     println!("{:<30}{:>10}", "days of the calendar stepped", days);
@@ -221,10 +222,10 @@ fn compare_and_report(blocks: u64, seed: u64, factors: &str) -> Result<(), Strin
     }
     println!("distance from the exact value");
     for (name, n) in &exact.counts {
-        println!("  {name:<30}{n:>8}");
+        println!("  {name:<32}{n:>8}");
     }
     for (name, share) in &exact.shares {
-        println!("  {name:<30}{share:>8.4}");
+        println!("  {name:<32}{share:>8.4}");
     }
     let all = start.elapsed().as_secs_f64();
     println!("seed {seed}; comparing took {:.1} s, everything {all:.1} s", compared.as_secs_f64());

@@ -55,9 +55,9 @@ impl Paid {
         self.paid == (self.first_value() - debit_value).max(self.underpin) + self.avc
     }
 
-    /// The gross value of a case whose underpin is 0.
-    pub fn gross_without_underpin(&self) -> i128 {
-        self.paid - self.avc
+    /// The gross value, where the underpin is 0.
+    pub fn gross_without_underpin(&self) -> Option<i128> {
+        (self.underpin == 0).then_some(self.paid - self.avc)
     }
 }
 
@@ -154,16 +154,21 @@ fn close(model: &Model, smaller: &Block, entry: &Entry, extra: i128, difference:
     (difference * 1_000_000 - exact).abs() <= (factor + 100) * 10_000
 }
 
-/// A pair's kind and entry, whether the larger has a debit value, and both blocks with their gross values.
+/// A pair's kind and entry, and whether the larger has a debit value.
 struct Tried {
     kind: u64,
     entry: Entry,
     divorced: bool,
-    accepted: [(Block, i128); 2],
 }
 
 /// Tries a pair that differs in one of these fields.
-fn try_pair(model: &Model, random: &mut Random, lent: &mut Lent, fields: &[usize]) -> Result<Tried, String> {
+fn try_pair(
+    model: &Model,
+    random: &mut Random,
+    lent: &mut Lent,
+    fields: &[usize],
+    nearness: &mut Nearness,
+) -> Result<Tried, String> {
     let (smaller, larger, entry, extra) = draw_pair(model, random, fields);
     let lines = [line_of(lent, &smaller), line_of(lent, &larger)];
     let failed = |what: &str| {
@@ -183,6 +188,9 @@ fn try_pair(model: &Model, random: &mut Random, lent: &mut Lent, fields: &[usize
         return failed("steps 5 and 6 do not give the payment");
     }
     let gross = sums.map(|sums| sums.gross);
+    for (block, gross) in [&smaller, &larger].into_iter().zip(gross) {
+        nearness.check(model, &case_of(&block.0), gross)?;
+    }
     let benefit = at::BENEFITS.contains(&entry.field);
     if benefit && after.paid < before.paid {
         return failed("paid less for a larger benefit");
@@ -193,8 +201,7 @@ fn try_pair(model: &Model, random: &mut Random, lent: &mut Lent, fields: &[usize
     if !benefit && after.paid > before.paid {
         return failed("paid more for a larger reduction");
     }
-    let (kind, divorced) = (smaller.kind(), debit_value(&sums[1]) > 0);
-    Ok(Tried { kind, entry, divorced, accepted: [(smaller, gross[0]), (larger, gross[1])] })
+    Ok(Tried { kind: smaller.kind(), entry, divorced: debit_value(&sums[1]) > 0 })
 }
 
 /// Every order of so many things; the first is the one in which they stand.
@@ -269,12 +276,12 @@ fn try_orders(model: &Model, random: &mut Random, lent: &mut Lent, nearness: &mu
     if !whole.follows(debit_value(&sums)) {
         return Err(failed("steps 5 and 6 do not give the payment", &[]));
     }
-    nearness.take_block(model, &block.0)?;
+    nearness.check_block(model, &block.0)?;
     let orders = orders(block.count());
     let mut summed = [0; 4];
     for place in 0..block.count() {
         let alone = with_line_alone(&block, place);
-        nearness.take_block(model, &alone.0)?;
+        nearness.check_block(model, &alone.0)?;
         let line = parse(&line_of(lent, &alone)).ok_or_else(|| failed("a line alone is not paid", &[place]))?;
         summed = std::array::from_fn(|item| summed[item] + line.items[item]);
     }
@@ -367,7 +374,7 @@ fn try_blocks(model: &Model, rounds: u64, seed: u64, nearness: &mut Nearness) ->
             change(model, random, &mut block);
         }
         block.seal();
-        nearness.take_block(model, &block.0)?;
+        nearness.check_block(model, &block.0)?;
         let mut longer = block.0.to_vec();
         longer.extend((BLOCK_LENGTH..LONGEST_BLOCK).map(|_| random.next() as u8));
         tried[0] += try_buffers(model, lent, &block.0, random.next() as u32)?;
@@ -406,12 +413,10 @@ fn try_pairs(
     let mut divorced = 0;
     for index in 0..pairs {
         let random = &mut Random::new(seed, stream, index);
-        let tried = try_pair(model, random, lent, fields).map_err(|e| format!("{e}; seed {seed}, pair {index}"))?;
+        let tried = try_pair(model, random, lent, fields, nearness);
+        let tried = tried.map_err(|e| format!("{e}; seed {seed}, pair {index}"))?;
         *drawn.entry((tried.kind, tried.entry.start, tried.entry.field)).or_insert(0) += 1;
         divorced += tried.divorced as u64;
-        for (block, gross) in &tried.accepted {
-            nearness.take(model, &case_of(&block.0), *gross)?;
-        }
     }
     let entries: u64 = KINDS.iter().map(|&kind| entries_of(kind, fields)).sum();
     let (found, least_drawn) = (drawn.len() as u64, *drawn.values().min().unwrap());
@@ -432,7 +437,7 @@ fn try_orders_of_many(model: &Model, cases: u64, seed: u64, nearness: &mut Nearn
     })
 }
 
-/// Every property, with how often it was tried. The accepted cases that it draws are taken in for their distance from the exact value.
+/// Every property, with how often it was tried. Of each accepted case that is drawn, the distance from its exact value is checked.
 pub fn try_all(
     model: &Model,
     blocks: u64,

@@ -13,7 +13,7 @@ use Rattle.answers.specs.Exact.{GrossNearExact}
 use Rattle.answers.specs.declared.Answer.{Answer}
 use Rattle.answers.specs.declared.Outcome.the-variants.{Refused}
 use Rattle.answers.proofs.Comparison.{demand3}
-use Rattle.answers.proofs.Exact.{gross-near-exact}
+use Rattle.answers.proofs.Exact.{answer-near-exact}
 use borrow.Author.Needs.{needs}
 use Rattle.valuing.proofs.block.value_block.Statement.{statement}
 use Rattle.valuing.proofs.block.value_block.Tie as tie
@@ -32,7 +32,7 @@ promised :
 unfolding blockAnswer
 promised s a e = (
   e,
-  (ap answerNumbers e, (λ read. rw (e, read) (demand3 (readingOf s .case)), λ read. rw (e, read) (gross-near-exact (readingOf s .case)))),
+  (ap answerNumbers e, (λ read. rw (e, read) (demand3 (readingOf s .case)), λ read. rw (e, read) (answer-near-exact (readingOf s .case)))),
 )
 
 returns : tie.Need-returns

@@ -11,7 +11,7 @@ use Rattle.answers.specs.Exact.{GrossNearExact}
 use Rattle.answers.specs.declared.Outcome.{Outcome}
 use Rattle.valuing.proofs.Stages.{by-form}
 use Rattle.answers.proofs.Comparison.{demand3}
-use Rattle.answers.proofs.Exact.{gross-near-exact}
+use Rattle.answers.proofs.Exact.{answer-near-exact}
 use borrow.Author.Needs.{needs}
 use Rattle.valuing.proofs.valuation.value.Statement.{statement}
 use Rattle.valuing.proofs.valuation.value.Tie as tie
@@ -27,7 +27,7 @@ value-well-formed-requires c κs =
 promised :
     (k : Case) (r : Outcome) → r ≡ answerOf k →
     (r ≡ answerOf k) × ((outcomeNumbers r ≡ outcomeNumbers (answerOf k)) × (Demand3 k r × GrossNearExact k r))
-promised k r e = (e, (ap outcomeNumbers e, (subst (Demand3 k) (sym e) (demand3 k), subst (GrossNearExact k) (sym e) (gross-near-exact k))))
+promised k r e = (e, (ap outcomeNumbers e, (subst (Demand3 k) (sym e) (demand3 k), subst (GrossNearExact k) (sym e) (answer-near-exact k))))
 
 returns : tie.Need-returns
 returns c =
