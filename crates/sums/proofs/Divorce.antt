@@ -28,7 +28,7 @@ unfolding valuedOn sumBelow
 no-value f x b h = rw (h 0, h 1, h 2, h 3) (simp zero-mul)
 
 module _ (f : ℕ → Factors) (c : Case) (none : (b : Benefit) (j : ℕ) → debited b (line c j) ≡ 0) where
-  -- so is what g makes of debits of 0, where g makes 0 of 0
+  -- what g makes of the debits is worth 0, where g makes 0 of 0
   pub no-debits : (g : ℕ → ℕ) → g 0 ≡ 0 → overBenefits (valuedOn f (λ i b. g (debited b (line c i)))) ≡ 0
   no-debits g e = omega (arith, value memberPension, value lumpSum, value survivorPension)
     where

@@ -1,7 +1,8 @@
 //! How far the gross value lies from the exact one (change request No. 14). The exact value is the sum worked as a fraction with
 //! nothing rounded. Here it is in millionths of a penny, of which it is a whole number, and in 128 bits.
 
-use crate::examples::{a_of_001, b_of_003, d_of_001, member, put_line, sealed};
+use crate::examples::{a_of_001, b_of_003, d_of_001, sealed};
+use crate::figures::aged_54;
 use crate::generator::*;
 use crate::library::Lent;
 use crate::model::*;
@@ -133,12 +134,6 @@ fn paid_gross(lent: &mut Lent, block: &Block) -> Option<i128> {
 
 /// Cases with their exact value, their gross value in pence and the bound, all worked out by hand.
 fn figures() -> [(Block, i128, i128, i128); 5] {
-    let aged_54 = |revaluation, amounts: &[(usize, u64)]| {
-        let mut block = member(1, 1, date(1966, 1, 1), date(2012, 4, 1), date(2020, 2, 1));
-        block.put(at::REVALUATION, 4, revaluation);
-        put_line(&mut block, 1, amounts);
-        block
-    };
     let near_the_bound = [
         (at::PENSION, 25_000),
         (at::LUMP, 5_000),

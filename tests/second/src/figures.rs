@@ -44,7 +44,7 @@ pub fn step_through_calendar() -> Result<u64, String> {
 }
 
 /// A kind 1 case of case number 1, aged 54, with these amounts on its line.
-fn aged_54(revaluation: u64, amounts: &[(usize, u64)]) -> Block {
+pub fn aged_54(revaluation: u64, amounts: &[(usize, u64)]) -> Block {
     let mut block = member(1, 1, date(1966, 1, 1), date(2012, 4, 1), date(2020, 2, 1));
     block.put(at::REVALUATION, 4, revaluation);
     put_line(&mut block, 1, amounts);

@@ -405,7 +405,8 @@ fn try_pairs(
     model: &Model,
     pairs: u64,
     seed: u64,
-    (stream, fields): (u64, &[usize]),
+    stream: u64,
+    fields: &[usize],
     nearness: &mut Nearness,
 ) -> Result<Pairs, String> {
     let lent = &mut Lent::new();
@@ -451,7 +452,7 @@ pub fn try_all(
         ("pairs, larger reduction", 5, &at::REDUCTIONS[..]),
         ("pairs, larger divorce debit", 6, &at::DIVORCE[..]),
     ] {
-        let Pairs { divorced, of_kind, least_drawn } = try_pairs(model, pairs, seed, (stream, fields), nearness)?;
+        let Pairs { divorced, of_kind, least_drawn } = try_pairs(model, pairs, seed, stream, fields, nearness)?;
         tried.extend([(name, pairs), ("  with divorce debits", divorced)]);
         tried.extend(["  of kind 1", "  of kind 2", "  of kind 3"].into_iter().zip(of_kind));
         tried.push(("  of each entry, at least", least_drawn));
