@@ -1,4 +1,4 @@
--- `main` is safe and ends: while something is wanted, less is left to read. And while it goes on, there are bytes done of which what
+-- `value_file` is safe and ends: while something is wanted, less is left to read. And while it goes on, there are bytes done of which what
 -- was written so far, with what is to be written next, is the report.
 -- Assumes nothing.
 use Prim.Native.Nat.{ℕ, _+_, _≤_, _<_, min}
@@ -13,8 +13,8 @@ use borrow.Author.Needs.{needs}
 use Rattle.runs.specs.Run.{left}
 use Rattle.runs.specs.Steps.{Reported}
 use Rattle.runs.specs.declared.Progress.{Progress}
-use Rattle.values.proofs.main.Statement.{statement}
-use Rattle.values.proofs.main.Tie as tie
+use Rattle.values.proofs.value_file.Statement.{statement}
+use Rattle.values.proofs.value_file.Tie as tie
 
 abbrev Going : Progress → List ℕ → Type 0
 Going run out = (done : List ℕ) × ((written : List ℕ) × Reported done (run .counts) (written ++ take (run .length) out))
@@ -53,8 +53,8 @@ loop-again c =
     let text : List ℕ = going .1 .0 ++ take (loop .run .length) (loop .out) in
     (step .ensures .1 .1 .1 .0, λ wanted. (_, (text, step .ensures .1 .1 .0 .going (going .0) text (going .1 .1) wanted)))
 
-pub main-spec : {M : Type 1} → statement M
-main-spec =
+pub value-file-spec : {M : Type 1} → statement M
+value-file-spec =
     tie.close
     (tie.spec
     Inv-loop
