@@ -4,3 +4,4 @@ pub mod Turns
 pub mod Left
 pub mod Reports
 pub mod Steps
+pub mod Parts

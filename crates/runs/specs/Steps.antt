@@ -1,14 +1,16 @@
 -- The steps of a run, and what they add to the report of a file.
 -- Assumes nothing.
 use Prim.Native.Nat.{ℕ, _+_, _-_, _*_, _%_, _≤_, _<_, min}
-use mathlib.Core.Bool.{Bool, true, false, cond, not, _&&_, _||_}
+use mathlib.Core.Bool.{Bool, true, false, cond}
 use mathlib.Core.List.{List, [], _++_}
 use mathlib.Core.Path.{_≡_}
-use lib.Dec.{ltb, eqb}
-use lib.ListN.{length, take}
+use lib.Dec.{eqb}
+use lib.ListN.{length, take, drop}
 use Rattle.report.specs.Lines.{header, endLine}
 use Rattle.runs.specs.declared.Counts.{Counts}
 use Rattle.runs.specs.declared.Progress.{Progress}
+use Rattle.runs.specs.declared.Source.{Source}
+use Rattle.runs.specs.declared.Source.the-variants.{Open, Ended, Failed}
 use Rattle.blocks.specs.Files.{blocks, allBlocks}
 use Rattle.runs.specs.Run.{limit, lines, paidIn, reportOf, wantedAfter, counted}
 
@@ -18,30 +20,43 @@ none = record { blocks = 0; paid = 0 }
 abbrev pub startOf : Progress
 startOf = record { counts = none; wanted = wantedAfter none; length = length header }
 
--- how many of n bytes count: where the read of them failed, a last part of a block does not
-abbrev pub kept : Bool → ℕ → ℕ
-kept failed n = cond failed (n - n % 512) n
+-- how many of n bytes count: a last part of a block counts only where the file has ended
+abbrev pub kept : Source → ℕ → ℕ
+kept Open n = n - n % 512
+kept Ended n = n
+kept Failed n = n - n % 512
 
--- how many bytes are read next: none where the file has ended
-abbrev pub wantedUnless : Bool → Counts → ℕ
-wantedUnless ended t = cond ended 0 (wantedAfter t)
+-- how many bytes are read next: none where the file has ended or a read failed
+abbrev pub wantedUnless : Source → Counts → ℕ
+wantedUnless Open t = wantedAfter t
+wantedUnless Ended t = 0
+wantedUnless Failed t = 0
 
--- a step after a read that put got bytes at the start of input and may have failed then
-module _ (t : Counts) (input : List ℕ) (got : ℕ) (failed : Bool) where
+-- whether the end line follows: nothing failed, and no more is wanted
+abbrev pub ends : Source → ℕ → Bool
+ends Open wanted = eqb wanted 0
+ends Ended wanted = true
+ends Failed wanted = false
+
+-- the last part of a block among the first got bytes of a buffer of 65,536
+unfoldable pub lastPart : List ℕ → ℕ → List ℕ
+lastPart input got = take (min got 65536 % 512) (drop (min got 65536 - min got 65536 % 512) input)
+
+-- a step with the got bytes at the start of input
+module _ (t : Counts) (input : List ℕ) (got : ℕ) (source : Source) where
   -- the bytes that count, no more than were wanted
   unfoldable pub chunk : List ℕ
-  chunk = take (kept failed (min got (wantedAfter t))) input
+  chunk = take (kept source (min got (wantedAfter t))) input
 
   abbrev pub countsAfter : Counts
   countsAfter = counted t (allBlocks chunk)
 
-  -- where fewer bytes came than were wanted, the file has ended
   abbrev pub wantedNext : ℕ
-  wantedNext = wantedUnless (failed || ltb got (wantedAfter t)) countsAfter
+  wantedNext = wantedUnless source countsAfter
 
-  -- the lines of the blocks, and the end line where nothing failed and no more is wanted
+  -- the lines of the blocks, and the end line if it follows
   unfoldable pub stepText : List ℕ
-  stepText = lines (t .blocks + 1) (allBlocks chunk) ++ cond (not failed && eqb wantedNext 0) (endLine (countsAfter .blocks) (countsAfter .paid)) []
+  stepText = lines (t .blocks + 1) (allBlocks chunk) ++ cond (ends source wantedNext) (endLine (countsAfter .blocks) (countsAfter .paid)) []
 
   abbrev pub stepOf : Progress
   stepOf = record { counts = countsAfter; wanted = wantedNext; length = length stepText }
@@ -56,12 +71,12 @@ pub record Reported (done : List ℕ) (t : Counts) (text : List ℕ) : Type 0 wh
 
 -- what a step adds to the text so far, where the bytes done were reported before it: r is its answer, and bytes are those that it
 -- formed
-pub record Continues (t : Counts) (input : List ℕ) (got : ℕ) (failed : Bool) (r : Progress) (bytes : List ℕ) : Type 0 where
+pub record Continues (t : Counts) (input : List ℕ) (got : ℕ) (source : Source) (r : Progress) (bytes : List ℕ) : Type 0 where
   -- while more is wanted, the chunk is reported too
-  pub going : (done text : List ℕ) → Reported done t text → 0 < r .wanted → Reported (done ++ chunk t input got failed) (r .counts) (text ++ bytes)
+  pub going : (done text : List ℕ) → Reported done t text → 0 < r .wanted → Reported (done ++ chunk t input got source) (r .counts) (text ++ bytes)
   -- so it is where a read failed, which ends the run
-  pub broken : (done text : List ℕ) → Reported done t text → failed ≡ true → Reported (done ++ chunk t input got failed) (r .counts) (text ++ bytes)
+  pub broken : (done text : List ℕ) → Reported done t text → source ≡ Failed → Reported (done ++ chunk t input got source) (r .counts) (text ++ bytes)
   -- otherwise, when the run is over, the text is the report of the whole file. rest is what the file has after the chunk: nothing
-  -- where fewer bytes came than were wanted
-  pub over : (done text rest : List ℕ) → Reported done t text → failed ≡ false → r .wanted ≡ 0 → (got < wantedAfter t → rest ≡ [])
-      → text ++ bytes ≡ reportOf (done ++ (chunk t input got failed ++ rest))
+  -- where the file has ended
+  pub over : (done text rest : List ℕ) → Reported done t text → (source ≡ Failed → ⊥) → r .wanted ≡ 0 → (source ≡ Ended → rest ≡ [])
+      → text ++ bytes ≡ reportOf (done ++ (chunk t input got source ++ rest))

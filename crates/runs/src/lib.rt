@@ -1,8 +1,10 @@
 // The run over a case file: what is read, chunk after chunk, and what is written of it.
 mod chunk;
 mod line;
+mod part;
 mod run;
 
+pub use part::keep_part;
 pub use run::start;
 pub use run::step;
 
@@ -11,6 +13,13 @@ pub type Input = [u8; 65536];
 
 // What it writes to: room for the lines of 128 blocks and the end line, at 256 bytes a line.
 pub type Output = [u8; 33024];
+
+// What can come after the bytes read so far: more, nothing since the file has ended, or nothing since a read failed.
+pub enum Source {
+    Open,
+    Ended,
+    Failed,
+}
 
 // How many blocks were read, and how many of them were paid.
 pub struct Counts {

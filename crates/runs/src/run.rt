@@ -1,15 +1,16 @@
 // The steps of a run. Between them the caller writes what a step put into the buffer, and reads what it wants next.
 ghost use mathlib.Core.Path.{_≡_};
 ghost use mathlib.Core.List.{[], _++_};
-ghost use Prim.Native.Nat.{_+_, _≤_, min};
+ghost use Prim.Native.Nat.{_+_, _%_, _≤_, min};
 ghost use lib.ListN.{length, take, drop};
 ghost use Rattle.report.specs.Lines.{header};
 ghost use Rattle.runs.specs.Run.{left, wantedAfter};
-ghost use Rattle.runs.specs.Steps.{kept, wantedUnless, startOf, stepOf, stepText, Reported, Continues};
+ghost use Rattle.runs.specs.Steps.{kept, wantedUnless, ends, startOf, stepOf, stepText, Reported, Continues};
 use crate::Counts;
 use crate::Input;
 use crate::Output;
 use crate::Progress;
+use crate::Source;
 use crate::chunk::least;
 use crate::chunk::put_lines;
 use crate::line::end_of;
@@ -29,16 +30,34 @@ fn wanted_after(counts: Counts) -> usize
     }
 }
 
-fn keep(failed: bool, n: usize) -> usize
-    ensures { λ r. ⌜ (r ≡ kept failed n) × (r ≤ n) ⌝ }
+fn keep(source: Source, n: usize) -> usize
+    ensures { λ r. ⌜ (r ≡ kept source n) × (r ≤ n) ⌝ }
 {
-    if failed { n - n % 512 } else { n }
+    match source {
+        Source::Open => n - n % 512,
+        Source::Ended => n,
+        Source::Failed => n - n % 512,
+    }
 }
 
-fn wanted_unless(ended: bool, after: Counts) -> usize
-    ensures { λ r. ⌜ r ≡ wantedUnless ended after ⌝ }
+fn wanted_unless(source: Source, after: Counts) -> usize
+    ensures { λ r. ⌜ r ≡ wantedUnless source after ⌝ }
 {
-    if ended { 0 } else { wanted_after(after) }
+    match source {
+        Source::Open => wanted_after(after),
+        Source::Ended => 0,
+        Source::Failed => 0,
+    }
+}
+
+fn has_ended(source: Source, wanted: usize) -> bool
+    ensures { λ r. ⌜ r ≡ ends source wanted ⌝ }
+{
+    match source {
+        Source::Open => wanted == 0,
+        Source::Ended => true,
+        Source::Failed => false,
+    }
 }
 
 // Starts a run: the header is to be written, and the first chunk to be read.
@@ -55,22 +74,22 @@ pub fn start(out: &mut Output) -> Progress
     }
 }
 
-// Continues a run after a read that put `got` bytes at the start of `input` and may then have failed. Where fewer bytes came than
-// were wanted, the file has ended.
-pub fn step(counts: Counts, input: &Input, got: usize, failed: bool, out: &mut Output) -> Progress
-    ensures answer { λ r. ⌜ r ≡ stepOf counts (now (input .entry)) got failed ⌝ }
-    ensures bytes { λ r. ⌜ now (out .exit) ≡ stepText counts (now (input .entry)) got failed ++ drop (r .length) (now (out .entry)) ⌝ }
-    ensures file { λ r. ⌜ Continues counts (now (input .entry)) got failed r (take (r .length) (now (out .exit))) ⌝ }
-    ensures room { λ r. ⌜ (r .wanted ≤ 65536) × (r .length ≤ 33024) ⌝ }
-    ensures less { λ r. ⌜ left (r .counts) + min 1 (r .wanted) ≤ left counts ⌝ }
+// Continues a run with the `got` bytes at the start of `input`. While more can come, a last part of a block is left for the next step:
+// the caller puts it at the start of `input` by `keep_part` and reads on after it.
+pub fn step(counts: Counts, input: &Input, got: usize, source: Source, out: &mut Output) -> Progress
+    ensures answer { λ r. ⌜ r ≡ stepOf counts (now (input .entry)) got source ⌝ }
+    ensures bytes { λ r. ⌜ now (out .exit) ≡ stepText counts (now (input .entry)) got source ++ drop (r .length) (now (out .entry)) ⌝ }
+    ensures file { λ r. ⌜ Continues counts (now (input .entry)) got source r (take (r .length) (now (out .exit))) ⌝ }
+    ensures room { λ r. ⌜ (r .wanted ≤ 65536) × ((r .wanted % 512 ≡ 0) × (r .length ≤ 33024)) ⌝ }
+    ensures less { λ r. ⌜ ((source ≡ Source.Open → 512 ≤ got) → left (r .counts) + min 1 (r .wanted) ≤ left counts) ⌝ }
 {
     let want = wanted_after(counts);
-    let n = keep(failed, least(got, want));
+    let n = keep(source, least(got, want));
     let read = &input[..];
     let lines = put_lines(&read[0..n], counts, out);
     let after = lines.counts;
-    let wanted = wanted_unless(failed | (got < want), after);
-    let length = put_end(out, lines.length, after, !failed & (wanted == 0));
+    let wanted = wanted_unless(source, after);
+    let length = put_end(out, lines.length, after, has_ended(source, wanted));
     Progress {
         counts: after,
         wanted: wanted,

@@ -1,6 +1,6 @@
 // What the program is asked by its arguments, and the usage text. Without an argument it values the case file on standard input.
 
-pub enum Request {
+pub(crate) enum Request {
     Report,
     Help,
     Version,
@@ -33,7 +33,7 @@ fn asked_by(word: &[u8]) -> Request {
     Request::Unknown
 }
 
-pub fn asked() -> Request {
+pub(crate) fn asked() -> Request {
     let count = os::arg_count();
     if count < 2 {
         return Request::Report;

@@ -6,7 +6,17 @@ use Rattle.runs.proofs.run.keep.Statement.{statement}
 use Rattle.runs.proofs.run.keep.Tie as tie
 
 returns : tie.Need-returns
-returns c = (rw (c .if1 .taken), omega arith)
+returns c = (rw (c .enum-told .given .1), omega arith)
+
+returns-3 : tie.Need-returns-3
+returns-3 c = (rw (c .enum-told3 .given .1), omega arith)
 
 pub keep-spec : {M : Type 1} → statement M
-keep-spec = tie.close (tie.spec (λ c. search needs) returns (λ c. search needs))
+keep-spec =
+    tie.close
+    (tie.spec
+    (λ c. search needs) (λ c. search needs) (λ c. search needs) (λ c. search needs)
+    (λ c. search needs)
+    returns
+    (λ c. search needs)
+    returns-3)

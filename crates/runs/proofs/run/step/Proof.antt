@@ -9,7 +9,7 @@ use borrow.Author.Needs.{needs}
 use Rattle.buffers.proofs.Writing.{from-start}
 use Rattle.runs.specs.Run.{wantedAfter}
 use Rattle.runs.specs.Steps.{kept}
-use Rattle.runs.proofs.Steps.{front, step-made, step-continues, left-less, wanted-small}
+use Rattle.runs.proofs.Steps.{front, step-made, step-continues, left-less, wanted-whole}
 use Rattle.runs.proofs.run.step.Statement.{statement}
 use Rattle.runs.proofs.run.step.Tie as tie
 
@@ -23,28 +23,34 @@ put-lines-requires c κs =
 
 returns : tie.Need-returns
 returns c =
-    let args = c .before .before .before .before .before .before .before .before .before .before .before .args in
-    let wanted-after = c .before .before .before .before .before .before .before .before .before .before .wanted-after in
-    let least = c .before .before .before .before .before .before .before .before .before .least in
-    let keep = c .before .before .before .before .before .before .before .before .keep in
-    let read = c .before .before .before .before .before .before .before .read in
-    let put-lines-arg2 = c .before .before .before .before .before .put-lines-arg2 in
-    let put-lines = c .before .before .before .before .put-lines in
-    let wanted-unless = c .before .before .wanted-unless in
+    let args = c .before .before .before .before .before .before .before .before .before .before .before .before .args in
+    let wanted-after = c .before .before .before .before .before .before .before .before .before .before .before .wanted-after in
+    let least = c .before .before .before .before .before .before .before .before .before .before .least in
+    let keep = c .before .before .before .before .before .before .before .before .before .keep in
+    let read = c .before .before .before .before .before .before .before .before .read in
+    let put-lines-arg2 = c .before .before .before .before .before .before .put-lines-arg2 in
+    let put-lines = c .before .before .before .before .before .put-lines in
+    let wanted-unless = c .before .before .before .wanted-unless in
+    let has-ended = c .before .has-ended in
     let put-end = c .put-end in
     let t = args .counts in
     let input = now (args .input) in
-    let kept-is : keep .result - 0 ≡ kept (args .failed) (min (args .got) (wantedAfter t)) = omega (arith, keep .ensures .0 ∙ ap (kept (args .failed)) (least .ensures ∙ ap (min (args .got)) (wanted-after .ensures))) in
-    let m = step-made t input (args .got) (args .failed) kept-is (put-lines .ensures .0) (rw (wanted-after .ensures) at (wanted-unless .ensures)) (put-lines .ensures .1 .0) (put-end .ensures) in
+    let source = args .source in
+    let kept-is : keep .result - 0 ≡ kept source (min (args .got) (wantedAfter t)) = omega (arith, keep .ensures .0 ∙ ap (kept source) (least .ensures ∙ ap (min (args .got)) (wanted-after .ensures))) in
+    let m = step-made t input (args .got) source kept-is (put-lines .ensures .0) (wanted-unless .ensures) (has-ended .ensures) (put-lines .ensures .1 .0) (put-end .ensures) in
     let s = from-start (m .1 .1) in
     let size : length input ≡ 65536 = read .given .0 in
-    let wide : length (now (args .out)) ≡ 33024 = put-lines-arg2 .given .0 .1 in (
+    let wide : length (now (args .out)) ≡ 33024 = put-lines-arg2 .given .0 .1 in
+    let whole = wanted-whole t input (args .got) source size in (
       λ i. record { counts = m .0 i; wanted = m .1 .0 i; length = s .0 i },
       (
         rw (s .0) (s .1),
         (
-          step-continues t input (args .got) (args .failed) size (m .0) (m .1 .0) (front _ _ (s .0) (s .1)),
-          ((omega (arith, wanted-small t input (args .got) (args .failed) size, m .1 .0), omega (arith, m .1 .1 .room)), rw (m .0, m .1 .0) (left-less t input (args .got) (args .failed) size)),
+          step-continues t input (args .got) source size (m .0) (m .1 .0) (front _ _ (s .0) (s .1)),
+          (
+            (omega (arith, whole .0, m .1 .0), (rw (m .1 .0) (whole .1), omega (arith, m .1 .1 .room))),
+            λ block. rw (m .0, m .1 .0) (left-less t input (args .got) source size block),
+          ),
         ),
       ),
     )
@@ -56,5 +62,5 @@ step-spec =
     (λ c κs. search needs) (λ c κs. search needs) (λ c κs. search needs) (λ c. search needs)
     (λ c. search needs) (λ c. search needs)
     put-lines-requires
-    (λ c κs. search needs) (λ c κs. search needs)
+    (λ c κs. search needs) (λ c κs. search needs) (λ c κs. search needs)
     returns)
