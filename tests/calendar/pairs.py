@@ -5,38 +5,15 @@
     python3 tests/calendar/pairs.py stdout > crates/calendar_check/stdout   a line for each
     python3 tests/calendar/pairs.py labels                                  the pairs, readable, with what each is for
 
-Days are those of Python's datetime. Birthdays are counted one by one, and years are tried one by one.
+The calendar is that of tests/model. tests/valuing states by hand what such days give and stops where the calendar differs.
 """
-import datetime, itertools, random, sys
+import datetime, pathlib, random, sys
 
-FIRST, LAST = datetime.date(1900, 1, 1), datetime.date(2199, 12, 31)
+sys.dont_write_bytecode = True
+sys.path.insert(0, str(pathlib.Path(__file__).resolve().parents[1]))
 
-
-def day(ymd):
-    """The real day, or None."""
-    try:
-        d = datetime.date(*ymd)
-    except ValueError:
-        return None
-    return d if FIRST <= d <= LAST else None
-
-
-def moved(d, years):
-    """The day moved on by years: month and day stay, but 29 February is 28 February in a common year."""
-    try:
-        return d.replace(year=d.year + years)
-    except ValueError:
-        return datetime.date(d.year + years, 2, 28)
-
-
-def age(birth, on):
-    """The number of birthdays reached."""
-    return sum(1 for n in range(1, 301) if moved(birth, n) <= on)
-
-
-def years_ahead(first, second):
-    """The fewest years after which the first, moved on, no longer stands before the second."""
-    return next(n for n in itertools.count() if not moved(first, n) < second)
+from model.blocks import bytes_of
+from model.calendar import FIRST, LAST, age, moved_on, real_day, years_ahead
 
 
 def pairs():
@@ -88,7 +65,7 @@ def pairs():
     yield (2199, 12, 31), (1900, 1, 1), 'from the last day to the first'
     for year in (1900, 2019, 2020):
         for month in range(1, 13):
-            last = max(d for d in range(28, 32) if day((year, month, d)))
+            last = max(d for d in range(28, 32) if real_day((year, month, d)))
             yield (year, month, last), (year, month, last + 1), 'the last day of a month, and none after it'
     for d in ((0, 0, 0), (1899, 12, 31), (2200, 1, 1), (2020, 0, 1), (2020, 13, 1), (2020, 1, 0), (2020, 2, 30), (2020, 255, 255), (65535, 12, 31)):
         yield d, (2020, 2, 29), 'no real day'
@@ -101,24 +78,23 @@ def pairs():
         yield parts(some()), parts(some()), 'any two days'
     for _ in range(250):
         d = some()
-        near = moved(d, below(2199 - d.year + 1)) + datetime.timedelta(below(5) - 2)
+        near = moved_on(d, below(2199 - d.year + 1)) + datetime.timedelta(below(5) - 2)
         yield parts(d), parts(min(near, LAST)), 'near the day moved on by some years'
 
 
 def line(place, a, b):
-    d, e = day(a), day(b)
+    d, e = real_day(a), real_day(b)
     told = lambda t: 'yes' if t else 'no'
-    rest = [told(d < e), age(d, e), told(e < moved(d, 65)), years_ahead(d, e)] if d and e else ['-'] * 4
+    rest = [told(d < e), age(d, e), told(e < moved_on(d, 65)), years_ahead(d, e)] if d and e else ['-'] * 4
     return ' '.join(map(str, [place, told(d), told(e), *rest]))
 
 
 def main():
-    to_bytes = lambda d: d[0].to_bytes(2, 'little') + bytes(d[1:])
     to_text = lambda d: '%d-%02d-%02d' % d
     what = sys.argv[1] if len(sys.argv) == 2 else ''
     for place, (a, b, label) in enumerate(pairs(), 1):
         if what == 'stdin':
-            sys.stdout.buffer.write(to_bytes(a) + to_bytes(b))
+            sys.stdout.buffer.write(bytes_of(a, 4) + bytes_of(b, 4))
         elif what == 'stdout':
             print(line(place, a, b))
         elif what == 'labels':
