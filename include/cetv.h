@@ -1,63 +1,10 @@
 /* Cash equivalents (transfer values) of the Scottish health service pension
- * scheme: the 1995 section with pension age 60 (kind 1), the 2015 scheme
- * (kind 2) and the 2008 section, pension age 65 (kind 3). Link with libcetv.a;
- * nothing else is needed.
+ * scheme, by the guidance notes of 22 August 2019. Link with libcetv.a; nothing
+ * else is needed.
  *
- * A case is a block of 512 bytes. A number is never negative and has its low
- * byte first; amounts are whole pence. A date takes four bytes: two for the
- * year, one for the month, one for the day.
- *
- *   offset  bytes  field
- *        0      2  kind: 1, 2 or 3
- *        4      4  case number, 1 or more
- *        8      1  status: 1 deferred, 2 active, 3 pensioner, 4 pension credit
- *        9      1  receiving scheme: 1 defined benefit, 2 defined contribution,
- *                  3 overseas
- *       10      1  flags, added up: 1 a transfer in, 2 a guaranteed minimum
- *                  pension (GMP), 4 a Choice Optant
- *       11      1  count of lines: 1 to 4 in kind 2, 1 in the other kinds
- *       12      2  complete months of qualifying service
- *       14      1  sex: 1 male or 2 female in kind 3, zero in the other kinds
- *       16      4  date of birth
- *       20      4  date of leaving
- *       24      4  guarantee date
- *       28      4  state pension date, zero without flag 2
- *       32      4  revaluation factor in ten-thousandths, 10,000 to 100,000
- *       40      8  voluntary fund (AVC)
- *       48      8  transfer-in payment, zero without flag 1
- *       56      8  own contributions
- *       64     72  line 1, and at 136, 208 and 280 lines 2 to 4:
- *                    0 pension date, 8 pension, 16 additional pension,
- *                    24 survivor's pension, 32 dependant's additional pension,
- *                    40 lump sum, 48 insurance modification, 56 Scheme Pays
- *                    debit on the pension, 64 that on the lump sum, 8 bytes
- *                    each but the date
- *      352     24  divorce debit of line 1, and at 376, 400 and 424 those of
- *                  lines 2 to 4:
- *                    0 debit pension, 8 debit survivor's pension, 16 debit lump
- *                    sum, 8 bytes each
- *      508      4  check: each of the 508 bytes before it, times its position
- *                  counted from 1, summed
- *
- * Amounts go to 1,000,000,000 pence, dates from 1 January 1900 to 31 December
- * 2199. Benefits and divorce debits are as at leaving, modification and Scheme
- * Pays as at the guarantee date. The benefits are those before the divorce
- * debit; a debit pension is of the pension and the additional pension together,
- * and a debit survivor's pension likewise. For a Choice Optant enter the
- * mandatory lump sum, and the pension that commutation leaves.
- *
- * These must be zero: every byte that no field names, and every flag not
- * listed; lines past the count, and their divorce debits; both additional
- * amounts of lines 2 to 4; in kinds 1 and 3 flag 1, the date of the line and own
- * contributions; in kinds 1 and 2 flag 4 and the sex; in kind 2 the
- * modification; in kind 2, and in kind 3 without flag 4, the lump sum and both
- * debits on it. A date that is zero has four zero bytes.
- *
- * The tables go by age last birthday at the guarantee date, 22 to 59 in kind 1
- * and 18 to 64 in kind 3; in kind 2 by the years from the guarantee date to the
- * line's date, a part of a year counting as one, 1 to 50. In kind 2 line 1 is
- * dated on or after the 65th birthday, and each line after it has an earlier
- * date than the line before it.
+ * A case is a block of bytes, laid out below. cetv_value_block reads it, values
+ * it and forms a line of text: a payment with its items, or the first refusal
+ * that applies. Every rule that refuses a block stands at its refusal.
  */
 #ifndef CETV_H
 #define CETV_H
@@ -69,35 +16,243 @@
 extern "C" {
 #endif
 
-/* The size of a block, and the least number of bytes to lend for a line. No
- * line is longer. */
+/* The version of this header: 10000 * major + 100 * minor + patch. That of the
+ * library is cetv_version(); the two belong together. */
+#define CETV_VERSION 10000
+#define CETV_VERSION_TEXT "1.0.0"
+
+/* The size of a block, and the least number of bytes to lend for a line of
+ * text. No such line is longer. */
 #define CETV_BLOCK_SIZE 512
 #define CETV_LINE_SIZE 256
 
-/* The refusals, by the number that a line gives, with their names there. The
- * first that applies is given, in this order: 15, 1 to 6, 17, 7 to 9, 11, 10,
- * 12 to 14, 16. */
-enum cetv_refusal {
-    CETV_LENGTH = 1,    /* length: the block is not 512 bytes */
-    CETV_CHECK = 2,     /* check: the check differs */
-    CETV_KIND = 3,      /* kind: not listed, or too few or too many lines for it */
-    CETV_RESERVED = 4,  /* reserved: something that must be zero is not */
-    CETV_RANGE = 5,     /* range: a number, code or date out of its range */
-    CETV_DATES = 6,     /* dates: dates that contradict each other */
-    CETV_STATUS = 7,    /* status: not deferred */
-    CETV_RECEIVER = 8,  /* receiver: not a defined benefit scheme */
-    CETV_SERVICE = 9,   /* service: under 3 months */
-    CETV_REFER = 10,    /* refer: GMP, state pension date before 6 April 2016 */
-    CETV_AGE = 11,      /* age: pension age reached */
-    CETV_FACTOR = 12,   /* factor: the tables have no row */
-    CETV_DEBIT = 13,    /* debit: Scheme Pays above the revalued amount */
-    CETV_NEGATIVE = 14, /* negative: the total is below zero, divorce debit apart */
-    CETV_BUFFER = 15,   /* buffer: fewer than 256 bytes lent (the answer is 0) */
-    CETV_AWARD = 16,    /* award: divorce debit worth more than that total */
-    CETV_ORDER = 17     /* order: the dates of lines 2 to 4 do not strictly fall */
+/* ---- Codes ---- */
+
+enum cetv_kind {
+    CETV_KIND_1995 = 1, /* the 1995 section with pension age 60 */
+    CETV_KIND_2015 = 2, /* the 2015 scheme */
+    CETV_KIND_2008 = 3  /* the 2008 section, pension age 65 */
 };
 
-/* Values one block and forms its line at the start of out.
+enum cetv_status {
+    CETV_STATUS_DEFERRED = 1,
+    CETV_STATUS_ACTIVE = 2,
+    CETV_STATUS_PENSIONER = 3,
+    CETV_STATUS_PENSION_CREDIT = 4
+};
+
+enum cetv_receiving_scheme {
+    CETV_RECEIVING_DEFINED_BENEFIT = 1,
+    CETV_RECEIVING_DEFINED_CONTRIBUTION = 2,
+    CETV_RECEIVING_OVERSEAS = 3
+};
+
+/* Flags are added up. */
+enum cetv_flag {
+    CETV_FLAG_TRANSFER_IN = 1,  /* the member transferred benefits in */
+    CETV_FLAG_GMP = 2,          /* has a guaranteed minimum pension */
+    CETV_FLAG_CHOICE_OPTANT = 4 /* is a Choice Optant of the 2008 section */
+};
+
+enum cetv_sex {
+    CETV_SEX_MALE = 1,
+    CETV_SEX_FEMALE = 2
+};
+
+/* ---- The block ---- */
+
+/* The position at which each field starts, counted from 0; the comment starts
+ * with its width in bytes. A number is unsigned, low byte first. A date is a
+ * year of 2 bytes, a month of 1 and a day of 1. Amounts are whole pence. */
+#define CETV_AT_KIND 0             /* 2 */
+#define CETV_AT_CASE_NUMBER 4      /* 4 */
+#define CETV_AT_STATUS 8           /* 1 */
+#define CETV_AT_RECEIVING_SCHEME 9 /* 1 */
+#define CETV_AT_FLAGS 10           /* 1 */
+#define CETV_AT_COUNT 11           /* 1: how many lines of benefits */
+#define CETV_AT_SERVICE 12         /* 2: months of qualifying service */
+#define CETV_AT_SEX 14             /* 1 */
+#define CETV_AT_BIRTH 16           /* 4: date of birth */
+#define CETV_AT_LEAVING 20         /* 4: date of leaving */
+#define CETV_AT_GUARANTEE 24       /* 4: guarantee date */
+#define CETV_AT_STATE_PENSION 28   /* 4: state pension date */
+#define CETV_AT_REVALUATION 32     /* 4: the factor in ten-thousandths */
+#define CETV_AT_AVC 40             /* 8: voluntary fund */
+#define CETV_AT_TRANSFER_IN 48     /* 8: transfer-in payment */
+#define CETV_AT_CONTRIBUTIONS 56   /* 8: own contributions */
+
+/* Line n of the benefits, n from 1 to 4. In kind 2, line 1 is for service
+ * without an early retirement buy-out and has the date of the prospective
+ * normal pension age; lines 2 to 4 are for a buy-out period each and have the
+ * date of its reduced age. */
+#define CETV_AT_LINE(n) (64 + 72 * ((n) - 1))
+#define CETV_AT_PENSION_DATE(n) (CETV_AT_LINE(n) + 0)                  /* 4 */
+#define CETV_AT_PENSION(n) (CETV_AT_LINE(n) + 8)                       /* 8 */
+#define CETV_AT_ADDITIONAL_PENSION(n) (CETV_AT_LINE(n) + 16)           /* 8 */
+#define CETV_AT_SURVIVORS_PENSION(n) (CETV_AT_LINE(n) + 24)            /* 8 */
+#define CETV_AT_DEPENDANTS_ADDITIONAL_PENSION(n) (CETV_AT_LINE(n) + 32) /* 8 */
+#define CETV_AT_LUMP_SUM(n) (CETV_AT_LINE(n) + 40)                     /* 8 */
+#define CETV_AT_MODIFICATION(n) (CETV_AT_LINE(n) + 48)                 /* 8 */
+#define CETV_AT_SCHEME_PAYS_PENSION(n) (CETV_AT_LINE(n) + 56)          /* 8 */
+#define CETV_AT_SCHEME_PAYS_LUMP_SUM(n) (CETV_AT_LINE(n) + 64)         /* 8 */
+
+/* The divorce debit of line n. */
+#define CETV_AT_DIVORCE(n) (352 + 24 * ((n) - 1))
+#define CETV_AT_DEBIT_PENSION(n) (CETV_AT_DIVORCE(n) + 0)              /* 8 */
+#define CETV_AT_DEBIT_SURVIVORS_PENSION(n) (CETV_AT_DIVORCE(n) + 8)    /* 8 */
+#define CETV_AT_DEBIT_LUMP_SUM(n) (CETV_AT_DIVORCE(n) + 16)            /* 8 */
+
+/* The check: each byte before it times its position counted from 1, summed. */
+#define CETV_AT_CHECK 508 /* 4 */
+
+/* What the amounts are:
+ *   - benefits and divorce debits are entered as at leaving, and revalued
+ *   - insurance modification and both Scheme Pays debits are entered as at the
+ *     guarantee date, and not revalued
+ *   - AVC, transfer-in payment and own contributions are not revalued
+ *   - pensions, modification and debits on a pension are yearly amounts, lump
+ *     sums are paid once
+ *   - the benefits are those before Scheme Pays and before the divorce debit
+ *   - a debit pension is of the pension and the additional pension together,
+ *     a debit survivor's pension likewise
+ *   - for a Choice Optant the lump sum is the mandatory one, and the pension
+ *     what commutation leaves. */
+
+/* ---- Limits ---- */
+
+#define CETV_MAX_AMOUNT 1000000000
+#define CETV_MIN_REVALUATION 10000
+#define CETV_MAX_REVALUATION 100000
+#define CETV_MIN_YEAR 1900 /* dates: 1 January of this year */
+#define CETV_MAX_YEAR 2199 /* to 31 December of this year */
+#define CETV_MAX_LINES 4   /* kind 2; kinds 1 and 3 have one line */
+#define CETV_MIN_SERVICE 3 /* complete months */
+
+/* Age is the number of birthdays reached by the guarantee date, that day
+ * included. Years ahead of a line is the fewest years by which the guarantee
+ * date must move on so as not to stand before the line's date: a part of a year
+ * counts as one. A birthday, or a date that moves on, of 29 February falls on
+ * 28 February in a common year. */
+#define CETV_MIN_AGE_1995 22     /* first row in the table of kind 1 */
+#define CETV_PENSION_AGE_1995 60 /* and pension age, before which it ends */
+#define CETV_MIN_AGE_2008 18     /* the same of kind 3 */
+#define CETV_PENSION_AGE_2008 65
+#define CETV_MIN_AGE_LINE_1 65   /* kind 2: line 1 is not dated before it */
+#define CETV_MAX_YEARS_AHEAD 50  /* last row in the table of kind 2 */
+
+/* ---- The sum ---- */
+
+/* Revalued is: times the revaluation factor, rounded to the penny. Pension and
+ * additional pension are added first and revalued together, and so are the
+ * survivor's pension and the dependant's additional pension. Halves of a penny
+ * go up, here and below. The factors are those of the notes' tables.
+ *
+ *   pension      over all lines, what the Scheme Pays debit leaves of the
+ *                revalued pension, times its factor
+ *   lump sum     the same of the lump sum
+ *   survivor     the revalued survivor's pension, times its factor
+ *   deduction    the modification, times its factor
+ *   total        pension + lump sum + survivor - deduction, not rounded
+ *   first value  the total, rounded to the penny
+ *   debit value  over all lines, each amount of the divorce debit revalued and
+ *                multiplied by its benefit's factor; the sum rounded to the
+ *                penny
+ *   gross value  first value - debit value
+ *   underpin     with flag 1 transfer-in payment + own contributions, else 0
+ *   payment      the larger of gross value and underpin, + AVC
+ */
+
+/* ---- The refusals ---- */
+
+/* By number, each with its name on the line of text and what it is given for.
+ * The first that applies is given, in this order: 15, 1 to 6, 17, 7 to 9, 11,
+ * 10, 12 to 14, 16. What is said of lines is said of those within the count. */
+enum cetv_refusal {
+    /* length: block_len is not CETV_BLOCK_SIZE. */
+    CETV_LENGTH = 1,
+
+    /* check: the check differs. */
+    CETV_CHECK = 2,
+
+    /* kind: the kind is not listed, or the count of lines is 0 or more than the
+     * kind may have. */
+    CETV_KIND = 3,
+
+    /* reserved: something that must be zero is not. These must be zero, a date
+     * with all its bytes:
+     *   - positions of no field: 2, 3, 15, 36 to 39, 68 to 71, 140 to 143,
+     *     212 to 215, 284 to 287, 448 to 507
+     *   - lines past the count: all of the line and of its divorce debit
+     *   - every kind: flags not listed
+     *   - without flag 1: transfer-in payment
+     *   - without flag 2: state pension date
+     *   - kinds 1 and 3: flag 1, own contributions, pension date
+     *   - kinds 1 and 2: flag 4, sex
+     *   - kind 2: modification
+     *   - kind 2, and kind 3 without flag 4: lump sum, Scheme Pays on the lump
+     *     sum, debit lump sum
+     *   - lines 2 to 4: additional pension, dependant's additional pension */
+    CETV_RESERVED = 4,
+
+    /* range: a number, code or date is out of its range:
+     *   - case number 0
+     *   - a status, a receiving scheme or in kind 3 a sex that is not listed
+     *   - a revaluation factor or an amount outside its limits
+     *   - a date of birth, date of leaving or guarantee date, with flag 2 a
+     *     state pension date, or in kind 2 a pension date that is no real day
+     *     within the limits; none of them may be zero. */
+    CETV_RANGE = 5,
+
+    /* dates: dates contradict each other:
+     *   - the member left on or before the day of birth
+     *   - the member left after the guarantee date
+     *   - kind 2: line 1 is dated before the 65th birthday
+     *   - kind 2: another line is dated on or after the date of line 1. */
+    CETV_DATES = 6,
+
+    /* status: the member is not deferred. */
+    CETV_STATUS = 7,
+
+    /* receiver: the receiving scheme is not a defined benefit scheme. */
+    CETV_RECEIVER = 8,
+
+    /* service: fewer months than CETV_MIN_SERVICE. */
+    CETV_SERVICE = 9,
+
+    /* refer: flag 2, and a state pension date before 6 April 2016. */
+    CETV_REFER = 10,
+
+    /* age: pension age is reached: in kinds 1 and 3 the member's age is the
+     * pension age or more; in kind 2 a line is dated on or before the guarantee
+     * date. */
+    CETV_AGE = 11,
+
+    /* factor: the table has no row: in kinds 1 and 3 the age is below its first
+     * row; in kind 2 the years ahead of a line are above its last. */
+    CETV_FACTOR = 12,
+
+    /* debit: on a line, a Scheme Pays debit is above the revalued pension or
+     * the revalued lump sum that it reduces; the same amount passes. */
+    CETV_DEBIT = 13,
+
+    /* negative: the total is below zero. */
+    CETV_NEGATIVE = 14,
+
+    /* buffer: fewer than CETV_LINE_SIZE bytes are lent. It shows on no line:
+     * cetv_value_block gives 0. */
+    CETV_BUFFER = 15,
+
+    /* award: the debit value is above the first value. */
+    CETV_AWARD = 16,
+
+    /* order: in kind 2, line 3 is dated on or after the date of line 2, or line
+     * 4 on or after that of line 3. */
+    CETV_ORDER = 17
+};
+
+/* ---- The functions ---- */
+
+/* Values one block and forms its line of text at the start of out.
  *
  *   block, block_len  the block; any bytes of any length
  *   place             the number that the line starts with, printed as given
@@ -105,15 +260,17 @@ enum cetv_refusal {
  *
  * The answer is the line's length, its line feed included; bytes of out past
  * it keep their contents. The line is not ended by a zero byte. The answer is
- * 0 where out_len is below 256 (refusal 15), and then no byte of out changes.
- * The line is one of
+ * 0 where out_len is below CETV_LINE_SIZE (refusal 15), and then no byte of out
+ * changes. The line is one of
  *
  *   PLACE CASE pay P pension A lump B survivor C deduct D underpin U avc V\n
  *   PLACE CASE refused NUMBER NAME\n
  *
- * with P, U and V in pounds with two decimals, A to D in pounds with four, and
- * CASE 0 where the block itself could not be read (refusals 1 to 5). A to D are
- * those before a divorce debit, which has no item of its own and shows in P.
+ * P, U and V are pounds with two decimals: payment, underpin and AVC. A to D
+ * are pounds with four: pension, lump sum, survivor and deduction of the sum. A
+ * divorce debit has no item of its own; it shows in P. CASE is the case number,
+ * and 0 where the block could not be read (refusals 1 to 5). No number has a
+ * sign, a space or a zero in front of it, but for the one before a point.
  *
  * A length of 0 with any pointer, NULL too, is an empty block or buffer. With
  * any other length the pointer must be good for so many bytes: block for
@@ -122,6 +279,9 @@ enum cetv_refusal {
  * not meet. */
 size_t cetv_value_block(const uint8_t *block, size_t block_len, uint32_t place,
                         uint8_t *out, size_t out_len);
+
+/* The version of the library, to be compared with CETV_VERSION. */
+uint32_t cetv_version(void);
 
 #ifdef __cplusplus
 }

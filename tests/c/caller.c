@@ -32,28 +32,34 @@ static void put_date(uint8_t *block, size_t at, unsigned year, unsigned month, u
 static void put_check(uint8_t *block)
 {
     uint32_t sum = 0;
-    for (uint32_t i = 0; i < 508; i++)
+    for (uint32_t i = 0; i < CETV_AT_CHECK; i++)
         sum += (i + 1) * block[i];
-    put(block, 508, 4, sum);
+    put(block, CETV_AT_CHECK, 4, sum);
+}
+
+/* A deferred member with one line, and a defined benefit scheme to go to. */
+static void start(uint8_t *block, enum cetv_kind kind, uint32_t case_number, unsigned months, uint32_t revaluation)
+{
+    memset(block, 0, CETV_BLOCK_SIZE);
+    put(block, CETV_AT_KIND, 2, kind);
+    put(block, CETV_AT_CASE_NUMBER, 4, case_number);
+    block[CETV_AT_STATUS] = CETV_STATUS_DEFERRED;
+    block[CETV_AT_RECEIVING_SCHEME] = CETV_RECEIVING_DEFINED_BENEFIT;
+    block[CETV_AT_COUNT] = 1;
+    put(block, CETV_AT_SERVICE, 2, months);
+    put(block, CETV_AT_REVALUATION, 4, revaluation);
 }
 
 /* Example B of the 2015 scheme's note. */
 static void example_b(uint8_t *block)
 {
-    memset(block, 0, CETV_BLOCK_SIZE);
-    put(block, 0, 2, 2);
-    put(block, 4, 4, 2);
-    block[8] = 1;
-    block[9] = 1;
-    block[11] = 1;
-    put(block, 12, 2, 29);
-    put_date(block, 16, 1977, 8, 7);
-    put_date(block, 20, 2017, 9, 1);
-    put_date(block, 24, 2020, 12, 1);
-    put(block, 32, 4, 10660);
-    put_date(block, 64, 2045, 1, 6);
-    put(block, 72, 8, 250000);
-    put(block, 88, 8, 84375);
+    start(block, CETV_KIND_2015, 2, 29, 10660);
+    put_date(block, CETV_AT_BIRTH, 1977, 8, 7);
+    put_date(block, CETV_AT_LEAVING, 2017, 9, 1);
+    put_date(block, CETV_AT_GUARANTEE, 2020, 12, 1);
+    put_date(block, CETV_AT_PENSION_DATE(1), 2045, 1, 6);
+    put(block, CETV_AT_PENSION(1), 8, 250000);
+    put(block, CETV_AT_SURVIVORS_PENSION(1), 8, 84375);
     put_check(block);
 }
 
@@ -64,27 +70,48 @@ static const char line_b[] =
  * section. */
 static void example_d(uint8_t *block)
 {
-    memset(block, 0, CETV_BLOCK_SIZE);
-    put(block, 0, 2, 3);
-    put(block, 4, 4, 3);
-    block[8] = 1;
-    block[9] = 1;
-    block[10] = 4;
-    block[11] = 1;
-    put(block, 12, 2, 120);
-    block[14] = 1;
-    put_date(block, 16, 1969, 5, 1);
-    put_date(block, 20, 2012, 4, 1);
-    put_date(block, 24, 2020, 1, 1);
-    put(block, 32, 4, 11700);
-    put(block, 72, 8, 1087500);
-    put(block, 88, 8, 506300);
-    put(block, 104, 8, 3150000);
+    start(block, CETV_KIND_2008, 3, 120, 11700);
+    block[CETV_AT_FLAGS] = CETV_FLAG_CHOICE_OPTANT;
+    block[CETV_AT_SEX] = CETV_SEX_MALE;
+    put_date(block, CETV_AT_BIRTH, 1969, 5, 1);
+    put_date(block, CETV_AT_LEAVING, 2012, 4, 1);
+    put_date(block, CETV_AT_GUARANTEE, 2020, 1, 1);
+    put(block, CETV_AT_PENSION(1), 8, 1087500);
+    put(block, CETV_AT_SURVIVORS_PENSION(1), 8, 506300);
+    put(block, CETV_AT_LUMP_SUM(1), 8, 3150000);
     put_check(block);
 }
 
 static const char line_d[] =
     "3 3 pay 198188.62 pension 163372.9500 lump 26167.0500 survivor 8648.6166 deduct 0.0000 underpin 0.00 avc 0.00\n";
+
+/* Every amount of kind 2 and the revaluation factor at its limit, on lines 4, 3,
+ * 2 and 1 years ahead: factors 15.72, 16.24, 16.65 and 17.08 for the pension,
+ * 1.61 and three times 1.60 for the survivor's pension. */
+static void largest(uint8_t *block)
+{
+    start(block, CETV_KIND_2015, UINT32_MAX, 65535, CETV_MAX_REVALUATION);
+    block[CETV_AT_FLAGS] = CETV_FLAG_TRANSFER_IN;
+    block[CETV_AT_COUNT] = CETV_MAX_LINES;
+    put_date(block, CETV_AT_BIRTH, 1959, 12, 1);
+    put_date(block, CETV_AT_LEAVING, 2017, 9, 1);
+    put_date(block, CETV_AT_GUARANTEE, 2020, 12, 1);
+    put(block, CETV_AT_AVC, 8, CETV_MAX_AMOUNT);
+    put(block, CETV_AT_TRANSFER_IN, 8, CETV_MAX_AMOUNT);
+    put(block, CETV_AT_CONTRIBUTIONS, 8, CETV_MAX_AMOUNT);
+    put(block, CETV_AT_ADDITIONAL_PENSION(1), 8, CETV_MAX_AMOUNT);
+    put(block, CETV_AT_DEPENDANTS_ADDITIONAL_PENSION(1), 8, CETV_MAX_AMOUNT);
+    for (unsigned n = 1; n <= CETV_MAX_LINES; n++) {
+        put_date(block, CETV_AT_PENSION_DATE(n), 2025 - n, 12, 1);
+        put(block, CETV_AT_PENSION(n), 8, CETV_MAX_AMOUNT);
+        put(block, CETV_AT_SURVIVORS_PENSION(n), 8, CETV_MAX_AMOUNT);
+    }
+    put_check(block);
+}
+
+static const char line_largest[] =
+    "4294967295 4294967295 pay 8953000000.00 pension 8141000000.0000 lump 0.0000 survivor 802000000.0000 deduct 0.0000"
+    " underpin 20000000.00 avc 10000000.00\n";
 
 /* The line for a block in a buffer of a size, with canary bytes around it. */
 static void formed(const char *what, const uint8_t *block, size_t length, uint32_t place, size_t size, const char *line)
@@ -101,7 +128,7 @@ static void formed(const char *what, const uint8_t *block, size_t length, uint32
             expect(room[i] == 0xA5, what);
 }
 
-static void tests(void)
+static void lengths(void)
 {
     uint8_t block[600];
     memset(block, 0, sizeof block);
@@ -121,29 +148,36 @@ static void tests(void)
     formed("a block that is too long", block, 513, 1, 256, "1 0 refused 1 length\n");
     expect(cetv_value_block(block, 512, 1, NULL, 0) == 0, "a NULL buffer of length 0");
     expect(cetv_value_block(NULL, 0, 1, NULL, 0) == 0, "NULL for both");
+}
 
-    block[8] = 9;
+static void cases(void)
+{
+    uint8_t block[CETV_BLOCK_SIZE];
+    example_b(block);
+    block[CETV_AT_STATUS] = 9;
     formed("a damaged byte", block, 512, 3, 256, "3 0 refused 2 check\n");
     put_check(block);
     formed("a status that is not listed", block, 512, 3, 256, "3 0 refused 5 range\n");
-    block[8] = 2;
+    block[CETV_AT_STATUS] = CETV_STATUS_ACTIVE;
     put_check(block);
     formed("an active member", block, 512, 3, 256, "3 2 refused 7 status\n");
 
     example_d(block);
     formed("a Choice Optant", block, 512, 3, 256, line_d);
-    block[14] = 2;
+    block[CETV_AT_SEX] = CETV_SEX_FEMALE;
     put_check(block);
     formed("a woman of the same age", block, 512, 3, 256, line_d);
-    block[14] = 3;
+    block[CETV_AT_SEX] = 3;
     put_check(block);
     formed("a sex that is not listed", block, 512, 3, 256, "3 0 refused 5 range\n");
-    block[10] = 0;
+    block[CETV_AT_FLAGS] = 0;
     put_check(block);
     formed("that sex, and a lump sum of one who is no Choice Optant", block, 512, 3, 256, "3 0 refused 4 reserved\n");
-    block[14] = 1;
+    block[CETV_AT_SEX] = CETV_SEX_MALE;
     put_check(block);
     formed("a lump sum of one who is no Choice Optant", block, 512, 3, 256, "3 0 refused 4 reserved\n");
+    largest(block);
+    formed("the largest amounts of kind 2", block, 512, 4294967295u, 256, line_largest);
     memset(block, 0, sizeof block);
     formed("a block of zeros", block, 512, 3, 256, "3 0 refused 3 kind\n");
 }
@@ -171,7 +205,9 @@ int main(int argc, char **argv)
 {
     if (argc == 2)
         return show(argv[1]);
-    tests();
+    expect(cetv_version() == CETV_VERSION, "header and library are of one version");
+    lengths();
+    cases();
     printf("C caller: %s\n", failures == 0 ? "all as expected" : "FAILED");
     return failures == 0 ? 0 : 1;
 }
