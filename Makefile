@@ -29,8 +29,8 @@ export PREFIX DESTDIR
 
 # As a word of the shell, which takes the two out of its environment: a path with spaces stays one word.
 root = "$$DESTDIR$$PREFIX"
-installed = bin/values bin/values-report lib/libcetv.a lib/pkgconfig/cetv.pc include/cetv.h share/man/man1/values.1 \
-    share/man/man3/cetv.3
+pages = man1/values.1 man1/values-report.1 man3/cetv.3 man3/cetv_value_block.3 man3/cetv_version.3
+installed = bin/values bin/values-report lib/libcetv.a lib/pkgconfig/cetv.pc include/cetv.h $(addprefix share/man/,$(pages))
 
 version = $(or $(shell sed -n 's/^.define CETV_VERSION_TEXT "\(.*\)"$$/\1/p' include/cetv.h), \
     $(error include/cetv.h has no CETV_VERSION_TEXT))
@@ -43,8 +43,7 @@ full-path:
 # The pages and cetv.pc are made under target/ first, so that a failure leaves no half of one installed.
 install: full-path values library
 	@mkdir -p target/install
-	@$(call stamped,man/values.1) > target/install/values.1
-	@$(call stamped,man/cetv.3) > target/install/cetv.3
+	@$(foreach page,$(notdir $(pages)),$(call stamped,man/$(page)) > target/install/$(page) &&) true
 	@{ printf 'prefix=%s\n' "$$PREFIX"; $(call stamped,cetv.pc.in); } > target/install/cetv.pc
 	@install -d $(foreach file,$(installed),$(root)/$(dir $(file)))
 	@install -m 755 target/bin/values $(root)/bin/values
@@ -52,8 +51,7 @@ install: full-path values library
 	@install -m 644 $(archive) $(root)/lib/libcetv.a
 	@install -m 644 target/install/cetv.pc $(root)/lib/pkgconfig/cetv.pc
 	@install -m 644 include/cetv.h $(root)/include/cetv.h
-	@install -m 644 target/install/values.1 $(root)/share/man/man1/values.1
-	@install -m 644 target/install/cetv.3 $(root)/share/man/man3/cetv.3
+	@$(foreach page,$(pages),install -m 644 target/install/$(notdir $(page)) $(root)/share/man/$(page) &&) true
 
 uninstall: full-path
 	@rm -f $(foreach file,$(installed),$(root)/$(file))

@@ -18,24 +18,33 @@ static int show(const uint8_t *block, size_t length, uint32_t place)
     case LINE_REFUSAL:
         printf("block %" PRIu32 ", case %" PRIu32 ": refusal %d, %s\n", place, answer.case_number, answer.refusal, answer.name);
         return 1;
-    default: /* not a line of the library's */
+    default:
+        fprintf(stderr, "block %" PRIu32 ": the library's line cannot be read\n", place);
         return 0;
     }
 }
 
 int main(int argc, char **argv)
 {
-    FILE *file = argc == 2 ? fopen(argv[1], "rb") : NULL;
-    if (!file || cetv_version() != CETV_VERSION) {
-        fprintf(stderr, file ? "the library is not of version " CETV_VERSION_TEXT "\n" : "usage: payments FILE\n");
+    if (argc != 2) {
+        fputs("usage: payments FILE\n", stderr);
         return 1;
     }
+    if (cetv_version() != CETV_VERSION) {
+        fputs("the library is not of version " CETV_VERSION_TEXT "\n", stderr);
+        return 1;
+    }
+    FILE *file = fopen(argv[1], "rb");
     uint8_t block[CETV_BLOCK_SIZE];
     size_t length;
-    int ok = 1;
-    for (uint32_t place = 1; ok && (length = fread(block, 1, sizeof block, file)) != 0; place++)
+    int ok = file != NULL;
+    for (uint32_t place = 1; ok && (length = fread(block, 1, sizeof block, file)) != 0 && !ferror(file); place++)
         ok = show(block, length, place);
-    ok = ok && !ferror(file);
-    fclose(file);
+    if (!file || ferror(file)) {
+        perror(argv[1]);
+        ok = 0;
+    }
+    if (file)
+        fclose(file);
     return ok ? 0 : 1;
 }

@@ -38,23 +38,23 @@ struct line_rest {
 static inline const char *line_refusal_name(int refusal)
 {
     switch (refusal) {
-    case CETV_LENGTH: return "length";
-    case CETV_CHECK: return "check";
-    case CETV_KIND: return "kind";
-    case CETV_RESERVED: return "reserved";
-    case CETV_RANGE: return "range";
-    case CETV_DATES: return "dates";
-    case CETV_STATUS: return "status";
-    case CETV_RECEIVER: return "receiver";
-    case CETV_SERVICE: return "service";
-    case CETV_REFER: return "refer";
-    case CETV_AGE: return "age";
-    case CETV_FACTOR: return "factor";
-    case CETV_DEBIT: return "debit";
-    case CETV_NEGATIVE: return "negative";
-    case CETV_BUFFER: return "buffer";
-    case CETV_AWARD: return "award";
-    case CETV_ORDER: return "order";
+    case CETV_REFUSAL_LENGTH: return "length";
+    case CETV_REFUSAL_CHECK: return "check";
+    case CETV_REFUSAL_KIND: return "kind";
+    case CETV_REFUSAL_RESERVED: return "reserved";
+    case CETV_REFUSAL_RANGE: return "range";
+    case CETV_REFUSAL_DATES: return "dates";
+    case CETV_REFUSAL_STATUS: return "status";
+    case CETV_REFUSAL_RECEIVER: return "receiver";
+    case CETV_REFUSAL_SERVICE: return "service";
+    case CETV_REFUSAL_REFER: return "refer";
+    case CETV_REFUSAL_AGE: return "age";
+    case CETV_REFUSAL_FACTOR: return "factor";
+    case CETV_REFUSAL_DEBIT: return "debit";
+    case CETV_REFUSAL_NEGATIVE: return "negative";
+    case CETV_REFUSAL_BUFFER: return "buffer";
+    case CETV_REFUSAL_AWARD: return "award";
+    case CETV_REFUSAL_ORDER: return "order";
     default: return NULL;
     }
 }
@@ -132,9 +132,9 @@ static inline void line_payment(struct line_rest *r, struct line_answer *a)
 /* Refusals 1 to 5 have no case number and the others have one; 15 has no line. */
 static inline void line_refusal(struct line_rest *r, struct line_answer *a)
 {
-    a->refusal = (int)line_number(r, CETV_ORDER);
+    a->refusal = (int)line_number(r, CETV_REFUSAL_ORDER);
     a->name = line_refusal_name(a->refusal);
-    if (!a->name || a->refusal == CETV_BUFFER || (a->refusal <= CETV_RANGE) != (a->case_number == 0)) {
+    if (!a->name || a->refusal == CETV_REFUSAL_BUFFER || (a->refusal <= CETV_REFUSAL_RANGE) != (a->case_number == 0)) {
         r->ok = 0;
         return;
     }
@@ -152,8 +152,8 @@ static inline enum line_form read_line(const uint8_t *line, size_t length, struc
     struct line_rest r = {line, length, 1};
     memset(answer, 0, sizeof *answer);
     if (length == 0) {
-        answer->refusal = CETV_BUFFER;
-        answer->name = line_refusal_name(CETV_BUFFER);
+        answer->refusal = CETV_REFUSAL_BUFFER;
+        answer->name = line_refusal_name(CETV_REFUSAL_BUFFER);
         return LINE_REFUSAL;
     }
     answer->place = (uint32_t)line_number(&r, UINT32_MAX);

@@ -17,7 +17,7 @@ extern "C" {
 #endif
 
 /* The version of this header: 10000 * major + 100 * minor + patch. That of the
- * library is cetv_version(); the two belong together. */
+ * library is cetv_version(); a program should check that the two are equal. */
 #define CETV_VERSION 10000
 #define CETV_VERSION_TEXT "1.0.0"
 
@@ -70,7 +70,7 @@ enum cetv_sex {
 #define CETV_AT_RECEIVING_SCHEME 9 /* 1 */
 #define CETV_AT_FLAGS 10           /* 1 */
 #define CETV_AT_COUNT 11           /* 1: how many lines of benefits */
-#define CETV_AT_SERVICE 12         /* 2: months of qualifying service */
+#define CETV_AT_SERVICE 12         /* 2: qualifying service, complete months */
 #define CETV_AT_SEX 14             /* 1 */
 #define CETV_AT_BIRTH 16           /* 4: date of birth */
 #define CETV_AT_LEAVING 20         /* 4: date of leaving */
@@ -84,7 +84,7 @@ enum cetv_sex {
 /* Line n of the benefits, n from 1 to 4. In kind 2, line 1 is for service
  * without an early retirement buy-out and has the date of the prospective
  * normal pension age; lines 2 to 4 are for a buy-out period each and have the
- * date of its reduced age. */
+ * date of its reduced age. Kinds 1 and 3 have line 1 alone, without a date. */
 #define CETV_AT_LINE(n) (64 + 72 * ((n) - 1))
 #define CETV_AT_PENSION_DATE(n) (CETV_AT_LINE(n) + 0)                  /* 4 */
 #define CETV_AT_PENSION(n) (CETV_AT_LINE(n) + 8)                       /* 8 */
@@ -115,12 +115,12 @@ enum cetv_sex {
  *   - the benefits are those before Scheme Pays and before the divorce debit
  *   - a debit pension is of the pension and the additional pension together,
  *     a debit survivor's pension likewise
- *   - for a Choice Optant the lump sum is the mandatory one, and the pension
+ *   - for a Choice Optant the lump sum is the mandatory one, and the pension is
  *     what commutation leaves. */
 
 /* ---- Limits ---- */
 
-#define CETV_MAX_AMOUNT 1000000000
+#define CETV_MAX_AMOUNT 1000000000 /* pence, each amount by itself */
 #define CETV_MIN_REVALUATION 10000
 #define CETV_MAX_REVALUATION 100000
 #define CETV_MIN_YEAR 1900 /* dates: 1 January of this year */
@@ -128,24 +128,26 @@ enum cetv_sex {
 #define CETV_MAX_LINES 4   /* kind 2; kinds 1 and 3 have one line */
 #define CETV_MIN_SERVICE 3 /* complete months */
 
-/* Age is the number of birthdays reached by the guarantee date, that day
- * included. Years ahead of a line is the fewest years by which the guarantee
- * date must move on so as not to stand before the line's date: a part of a year
- * counts as one. A birthday, or a date that moves on, of 29 February falls on
- * 28 February in a common year. */
-#define CETV_MIN_AGE_1995 22     /* first row in the table of kind 1 */
-#define CETV_PENSION_AGE_1995 60 /* and pension age, before which it ends */
-#define CETV_MIN_AGE_2008 18     /* the same of kind 3 */
+/* Age is how many birthdays have come by the guarantee date, that day included.
+ * The years ahead of a line are the least number of years that takes the
+ * guarantee date to the line's date or past it, so a part of a year counts as
+ * one. A birthday or guarantee date of 29 February falls on 28 February in a
+ * common year. */
+#define CETV_MIN_AGE_1995 22     /* kind 1: youngest age in the table */
+#define CETV_PENSION_AGE_1995 60 /* refused from this age on */
+#define CETV_MIN_AGE_2008 18     /* kind 3: the same two */
 #define CETV_PENSION_AGE_2008 65
-#define CETV_MIN_AGE_LINE_1 65   /* kind 2: line 1 is not dated before it */
+#define CETV_MIN_AGE_LINE_1 65   /* kind 2: line 1 is dated on this birthday or
+                                  * later */
 #define CETV_MAX_YEARS_AHEAD 50  /* last row in the table of kind 2 */
 
 /* ---- The sum ---- */
 
-/* Revalued is: times the revaluation factor, rounded to the penny. Pension and
- * additional pension are added first and revalued together, and so are the
- * survivor's pension and the dependant's additional pension. Halves of a penny
- * go up, here and below. The factors are those of the notes' tables.
+/* To revalue is to multiply by the revaluation factor and round to the penny.
+ * Pension and additional pension are added first and revalued together, and so
+ * are the survivor's pension and the dependant's additional pension. Halves of
+ * a penny go up, here and below. The factors are those of the notes' tables, by
+ * age in kinds 1 and 3 and by the years ahead of each line in kind 2.
  *
  *   pension      over all lines, what the Scheme Pays debit leaves of the
  *                revalued pension, times its factor
@@ -158,7 +160,7 @@ enum cetv_sex {
  *                multiplied by its benefit's factor; the sum rounded to the
  *                penny
  *   gross value  first value - debit value
- *   underpin     with flag 1 transfer-in payment + own contributions, else 0
+ *   underpin     with flag 1, transfer-in payment + own contributions; else 0
  *   payment      the larger of gross value and underpin, + AVC
  */
 
@@ -169,14 +171,14 @@ enum cetv_sex {
  * 10, 12 to 14, 16. What is said of lines is said of those within the count. */
 enum cetv_refusal {
     /* length: block_len is not CETV_BLOCK_SIZE. */
-    CETV_LENGTH = 1,
+    CETV_REFUSAL_LENGTH = 1,
 
     /* check: the check differs. */
-    CETV_CHECK = 2,
+    CETV_REFUSAL_CHECK = 2,
 
     /* kind: the kind is not listed, or the count of lines is 0 or more than the
      * kind may have. */
-    CETV_KIND = 3,
+    CETV_REFUSAL_KIND = 3,
 
     /* reserved: something that must be zero is not. These must be zero, a date
      * with all its bytes:
@@ -192,62 +194,62 @@ enum cetv_refusal {
      *   - kind 2, and kind 3 without flag 4: lump sum, Scheme Pays on the lump
      *     sum, debit lump sum
      *   - lines 2 to 4: additional pension, dependant's additional pension */
-    CETV_RESERVED = 4,
+    CETV_REFUSAL_RESERVED = 4,
 
     /* range: a number, code or date is out of its range:
      *   - case number 0
      *   - a status, a receiving scheme or in kind 3 a sex that is not listed
      *   - a revaluation factor or an amount outside its limits
-     *   - a date of birth, date of leaving or guarantee date, with flag 2 a
-     *     state pension date, or in kind 2 a pension date that is no real day
-     *     within the limits; none of them may be zero. */
-    CETV_RANGE = 5,
+     *   - one of these dates that is zero or no real day within the limits:
+     *     birth, leaving, guarantee; with flag 2, state pension; in kind 2, the
+     *     pension date of each line. */
+    CETV_REFUSAL_RANGE = 5,
 
     /* dates: dates contradict each other:
      *   - the member left on or before the day of birth
      *   - the member left after the guarantee date
      *   - kind 2: line 1 is dated before the 65th birthday
      *   - kind 2: another line is dated on or after the date of line 1. */
-    CETV_DATES = 6,
+    CETV_REFUSAL_DATES = 6,
 
     /* status: the member is not deferred. */
-    CETV_STATUS = 7,
+    CETV_REFUSAL_STATUS = 7,
 
     /* receiver: the receiving scheme is not a defined benefit scheme. */
-    CETV_RECEIVER = 8,
+    CETV_REFUSAL_RECEIVER = 8,
 
     /* service: fewer months than CETV_MIN_SERVICE. */
-    CETV_SERVICE = 9,
+    CETV_REFUSAL_SERVICE = 9,
 
     /* refer: flag 2, and a state pension date before 6 April 2016. */
-    CETV_REFER = 10,
+    CETV_REFUSAL_REFER = 10,
 
     /* age: pension age is reached: in kinds 1 and 3 the member's age is the
      * pension age or more; in kind 2 a line is dated on or before the guarantee
      * date. */
-    CETV_AGE = 11,
+    CETV_REFUSAL_AGE = 11,
 
     /* factor: the table has no row: in kinds 1 and 3 the age is below its first
      * row; in kind 2 the years ahead of a line are above its last. */
-    CETV_FACTOR = 12,
+    CETV_REFUSAL_FACTOR = 12,
 
     /* debit: on a line, a Scheme Pays debit is above the revalued pension or
      * the revalued lump sum that it reduces; the same amount passes. */
-    CETV_DEBIT = 13,
+    CETV_REFUSAL_DEBIT = 13,
 
     /* negative: the total is below zero. */
-    CETV_NEGATIVE = 14,
+    CETV_REFUSAL_NEGATIVE = 14,
 
     /* buffer: fewer than CETV_LINE_SIZE bytes are lent. It shows on no line:
      * cetv_value_block gives 0. */
-    CETV_BUFFER = 15,
+    CETV_REFUSAL_BUFFER = 15,
 
     /* award: the debit value is above the first value. */
-    CETV_AWARD = 16,
+    CETV_REFUSAL_AWARD = 16,
 
     /* order: in kind 2, line 3 is dated on or after the date of line 2, or line
      * 4 on or after that of line 3. */
-    CETV_ORDER = 17
+    CETV_REFUSAL_ORDER = 17
 };
 
 /* ---- The functions ---- */
@@ -267,16 +269,18 @@ enum cetv_refusal {
  *   PLACE CASE refused NUMBER NAME\n
  *
  * P, U and V are pounds with two decimals: payment, underpin and AVC. A to D
- * are pounds with four: pension, lump sum, survivor and deduction of the sum. A
- * divorce debit has no item of its own; it shows in P. CASE is the case number,
- * and 0 where the block could not be read (refusals 1 to 5). No number has a
- * sign, a space or a zero in front of it, but for the one before a point.
+ * are pounds with four: pension, lump sum, survivor and deduction of the sum.
+ * Counted in pence, an amount may need more than 32 bits. A divorce debit has
+ * no item of its own; it shows in P. CASE is the case number, and 0 where the
+ * block could not be read (refusals 1 to 5). Numbers have no sign, no padding
+ * and no leading zeros, but for the one before the point of an amount below a
+ * pound.
  *
  * A length of 0 with any pointer, NULL too, is an empty block or buffer. With
  * any other length the pointer must be good for so many bytes: block for
- * reading, out for writing. The two must not overlap. Nothing else is asked of
- * the caller, nothing is kept between calls, and calls in several threads do
- * not meet. */
+ * reading, out for writing. The two must not overlap, and nothing else may
+ * write to either during the call. No more is asked of the caller; nothing is
+ * kept between calls, and calls from several threads at once are safe. */
 size_t cetv_value_block(const uint8_t *block, size_t block_len, uint32_t place,
                         uint8_t *out, size_t out_len);
 

@@ -151,7 +151,7 @@ static void others(void)
     struct line_answer a;
     for (size_t i = 0; i < sizeof lines / sizeof lines[0]; i++)
         expect(read_text(lines[i], &a) == LINE_UNREADABLE, "no line of the library's", lines[i]);
-    expect(reading(NULL, 0, &a) == LINE_REFUSAL && a.refusal == CETV_BUFFER && strcmp(a.name, "buffer") == 0
+    expect(reading(NULL, 0, &a) == LINE_REFUSAL && a.refusal == CETV_REFUSAL_BUFFER && strcmp(a.name, "buffer") == 0
         && a.place == 0 && a.case_number == 0, "a length of 0 is refusal 15", "");
 }
 
@@ -168,10 +168,10 @@ static void refusals(const char *file_name)
     while (fscanf(file, "%d %31s", &number, name) == 2) {
         struct line_answer a;
         count++;
-        uint32_t case_number = number <= CETV_RANGE ? 0 : 4000000000u;
+        uint32_t case_number = number <= CETV_REFUSAL_RANGE ? 0 : 4000000000u;
         snprintf(line, sizeof line, "30 %" PRIu32 " refused %d %s\n", case_number, number, name);
         enum line_form form = read_text(line, &a);
-        if (number == CETV_BUFFER) {
+        if (number == CETV_REFUSAL_BUFFER) {
             expect(form == LINE_UNREADABLE, "15 stands on no line", line);
             expect(reading(NULL, 0, &a) == LINE_REFUSAL && strcmp(a.name, name) == 0, "the name of 15", name);
             continue;
@@ -181,7 +181,7 @@ static void refusals(const char *file_name)
         damaged(line);
     }
     fclose(file);
-    expect(count == CETV_ORDER, "a name for each refusal", file_name);
+    expect(count == CETV_REFUSAL_ORDER, "a name for each refusal", file_name);
 }
 
 /* Bytes that lines are made of, in any order. */

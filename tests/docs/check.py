@@ -13,8 +13,8 @@ Every page:
   crate`), `name` of or in `file or crate`; `crate::name`; and every name of a table row that starts with a crate.
 
 The pages in STRICT: a name other than a crate's stands after its file, and is declared in the file that stands last before it in
-the same table cell or paragraph. docs/MAP.md has each public function of the crates with specifications, and each request of
-docs/CHANGES.md.
+the same table cell or paragraph. docs/MAP.md has each public function of the crates with specifications, in its section PUBLIC and
+after a file of its crate, and each request of docs/CHANGES.md.
 """
 import pathlib
 import re
@@ -25,6 +25,7 @@ from declared import names_in, public_functions
 TOP = pathlib.Path.cwd()
 STRICT = {"docs/MAP.md", "docs/TRUST.md", "docs/GLOSSARY.md"}
 LINKS_ONLY = {"docs/CHANGES.md"}
+PUBLIC = "## Every public function"
 NEEDED = STRICT | LINKS_ONLY | {"README.md", "CONTRIBUTING.md"}
 SOURCES = ("crates", "tests", "bench", "include", "examples", "bin", ".ci", "Makefile")
 
@@ -310,15 +311,32 @@ def check_page(page):
             check_row(page, line, text)
 
 
+def mapped_functions(text):
+    """What the map's section PUBLIC has after a source file, each name with the crate of that file."""
+    mapped = set()
+    section = re.split(r"^## ", text.partition(f"\n{PUBLIC}\n")[2], flags=re.M)[0]
+    for cell in (cell for line in section.splitlines() for cell in cells_of(line)):
+        crate = None
+        for span, _, _ in spans_of(cell):
+            found = re.match(r"(\w+)/src/", span)
+            if found:
+                crate = found.group(1)
+            elif not name_of(span):
+                crate = None
+            elif crate:
+                mapped.add((crate, span))
+    return mapped
+
+
 def check_map():
     """The map leaves out no public function and no request."""
     text = (TOP / "docs/MAP.md").read_text()
-    cited = {span for span, _, _ in spans_of(text.replace("\n", " "))}
+    mapped = mapped_functions(text)
     for crate in sorted(TOP.glob("crates/*")):
         if (crate / "specs").is_dir():
             for name in public_functions(crate):
-                if name not in cited:
-                    fail("docs/MAP.md", 1, f"the public function `{name}` of crates/{crate.name} is not there")
+                if (crate.name, name) not in mapped:
+                    fail("docs/MAP.md", 1, f"the public function `{name}` of crates/{crate.name} is not in \"{PUBLIC[3:]}\"")
     for number in re.findall(r"^## No\. (\d+)", (TOP / "docs/CHANGES.md").read_text(), re.M):
         if not re.search(rf"^###? No\. {number}\b", text, re.M):
             fail("docs/MAP.md", 1, f"request No. {number} is not there")

@@ -26,9 +26,9 @@ WORDED = {
     "check": "the check differs.",
     "kind": "the kind is not listed, or the count of lines is 0 or more than the kind may have.",
     "range": "a number, code or date is out of its range: - case number 0 - a status, a receiving scheme or in kind 3 a"
-    " sex that is not listed - a revaluation factor or an amount outside its limits - a date of birth, date of leaving"
-    " or guarantee date, with flag 2 a state pension date, or in kind 2 a pension date that is no real day within the"
-    " limits; none of them may be zero.",
+    " sex that is not listed - a revaluation factor or an amount outside its limits - one of these dates that is zero"
+    " or no real day within the limits: birth, leaving, guarantee; with flag 2, state pension; in kind 2, the pension"
+    " date of each line.",
     "dates": "dates contradict each other: - the member left on or before the day of birth - the member left after the"
     " guarantee date - kind 2: line 1 is dated before the 65th birthday - kind 2: another line is dated on or after the"
     " date of line 1.",
@@ -47,51 +47,66 @@ WORDED = {
     "award": "the debit value is above the first value.",
     "order": "in kind 2, line 3 is dated on or after the date of line 2, or line 4 on or after that of line 3.",
 }
-# What else the cases and rules.py go by.
+# What else the cases and rules.py go by, and what a caller must know that no case can show. Comments that follow each other stand
+# together, so that two of them cannot change places.
 SENTENCES = [
     "by the guidance notes of 22 August 2019.",
-    "The version of this header: 10000 * major + 100 * minor + patch.",
-    "The position at which each field starts, counted from 0; the comment starts with its width in bytes.",
-    "A number is unsigned, low byte first. A date is a year of 2 bytes, a month of 1 and a day of 1. Amounts are whole"
-    " pence.",
-    "In kind 2, line 1 is for service without",
-    "lines 2 to 4 are for a buy-out period each",
+    "The version of this header: 10000 * major + 100 * minor + patch. That of the library is cetv_version(); a program"
+    " should check that the two are equal.",
+    "The size of a block, and the least number of bytes to lend for a line of text. No such line is longer.",
+    "the 1995 section with pension age 60 the 2015 scheme the 2008 section, pension age 65",
+    "Flags are added up. the member transferred benefits in has a guaranteed minimum pension is a Choice Optant of the"
+    " 2008 section",
+    "The position at which each field starts, counted from 0; the comment starts with its width in bytes. A number is"
+    " unsigned, low byte first. A date is a year of 2 bytes, a month of 1 and a day of 1. Amounts are whole pence.",
+    "1: how many lines of benefits 2: qualifying service, complete months",
+    "4: date of birth 4: date of leaving 4: guarantee date 4: state pension date 4: the factor in ten-thousandths"
+    " 8: voluntary fund 8: transfer-in payment 8: own contributions",
+    "In kind 2, line 1 is for service without an early retirement buy-out and has the date of the prospective normal"
+    " pension age; lines 2 to 4 are for a buy-out period each and have the date of its reduced age. Kinds 1 and 3 have"
+    " line 1 alone, without a date.",
+    "The divorce debit of line n.",
     "The check: each byte before it times its position counted from 1, summed.",
-    "1: how many lines of benefits",
-    "2: months of qualifying service",
-    "complete months",
-    "4: the factor in ten-thousandths",
-    "dates: 1 January of this year",
-    "to 31 December of this year",
-    "kind 2; kinds 1 and 3 have one line",
-    "of 29 February falls on 28 February in a common year.",
-    "first row in the table of kind 1",
-    "the same of kind 3",
-    "kind 2: line 1 is not dated before it",
-    "last row in the table of kind 2",
-    "the 1995 section with pension age 60",
-    "the 2015 scheme",
-    "the 2008 section, pension age 65",
-    "is a Choice Optant of the 2008 section",
-    "benefits and divorce debits are entered as at leaving, and revalued",
-    "insurance modification and both Scheme Pays debits are entered as at the guarantee date, and not revalued",
-    "AVC, transfer-in payment and own contributions are not revalued",
-    "Revalued is: times the revaluation factor, rounded to the penny. Pension and additional pension are added first"
-    " and revalued together, and so are the survivor's pension and the dependant's additional pension. Halves of a"
-    " penny go up, here and below.",
+    "What the amounts are: - benefits and divorce debits are entered as at leaving, and revalued - insurance modification"
+    " and both Scheme Pays debits are entered as at the guarantee date, and not revalued - AVC, transfer-in payment and"
+    " own contributions are not revalued - pensions, modification and debits on a pension are yearly amounts, lump sums"
+    " are paid once - the benefits are those before Scheme Pays and before the divorce debit - a debit pension is of the"
+    " pension and the additional pension together, a debit survivor's pension likewise - for a Choice Optant the lump sum"
+    " is the mandatory one, and the pension is what commutation leaves.",
+    "pence, each amount by itself dates: 1 January of this year to 31 December of this year kind 2; kinds 1 and 3 have"
+    " one line complete months",
+    "Age is how many birthdays have come by the guarantee date, that day included. The years ahead of a line are the"
+    " least number of years that takes the guarantee date to the line's date or past it, so a part of a year counts as"
+    " one. A birthday or guarantee date of 29 February falls on 28 February in a common year.",
+    "kind 1: youngest age in the table refused from this age on kind 3: the same two kind 2: line 1 is dated on this"
+    " birthday or later last row in the table of kind 2",
+    "To revalue is to multiply by the revaluation factor and round to the penny. Pension and additional pension are added"
+    " first and revalued together, and so are the survivor's pension and the dependant's additional pension. Halves of a"
+    " penny go up, here and below. The factors are those of the notes' tables, by age in kinds 1 and 3 and by the years"
+    " ahead of each line in kind 2.",
     "pension over all lines, what the Scheme Pays debit leaves of the revalued pension, times its factor lump sum the"
     " same of the lump sum survivor the revalued survivor's pension, times its factor deduction the modification, times"
     " its factor total pension + lump sum + survivor - deduction, not rounded first value the total, rounded to the"
     " penny debit value over all lines, each amount of the divorce debit revalued and multiplied by its benefit's"
-    " factor; the sum rounded to the penny gross value first value - debit value underpin with flag 1 transfer-in"
-    " payment + own contributions, else 0 payment the larger of gross value and underpin, + AVC",
+    " factor; the sum rounded to the penny gross value first value - debit value underpin with flag 1, transfer-in"
+    " payment + own contributions; else 0 payment the larger of gross value and underpin, + AVC",
     "What is said of lines is said of those within the count.",
-    "The answer is 0 where out_len is below CETV_LINE_SIZE (refusal 15), and then no byte of out changes.",
+    "Values one block and forms its line of text at the start of out. block, block_len the block; any bytes of any"
+    " length place the number that the line starts with, printed as given out, out_len the result buffer",
+    "The answer is the line's length, its line feed included; bytes of out past it keep their contents. The line is not"
+    " ended by a zero byte. The answer is 0 where out_len is below CETV_LINE_SIZE (refusal 15), and then no byte of out"
+    " changes.",
     "PLACE CASE pay P pension A lump B survivor C deduct D underpin U avc V\\n PLACE CASE refused NUMBER NAME\\n",
     "P, U and V are pounds with two decimals: payment, underpin and AVC. A to D are pounds with four: pension, lump"
-    " sum, survivor and deduction of the sum.",
-    "CASE is the case number, and 0 where the block could not be read (refusals 1 to 5).",
-    "A length of 0 with any pointer, NULL too, is an empty block or buffer.",
+    " sum, survivor and deduction of the sum. Counted in pence, an amount may need more than 32 bits. A divorce debit has"
+    " no item of its own; it shows in P.",
+    "CASE is the case number, and 0 where the block could not be read (refusals 1 to 5). Numbers have no sign, no padding"
+    " and no leading zeros, but for the one before the point of an amount below a pound.",
+    "A length of 0 with any pointer, NULL too, is an empty block or buffer. With any other length the pointer must be"
+    " good for so many bytes: block for reading, out for writing. The two must not overlap, and nothing else may write"
+    " to either during the call. No more is asked of the caller; nothing is kept between calls, and calls from several"
+    " threads at once are safe.",
+    "The version of the library, to be compared with CETV_VERSION.",
 ]
 # 01's codes, and those of the change requests.
 CODES = {
@@ -120,6 +135,13 @@ class Check:
     def expect(self, holds, what):
         if not holds:
             self.faults.append(what)
+
+    def report(self):
+        """Ends the run where something differs."""
+        for fault in self.faults[:20]:
+            print(fault)
+        if self.faults:
+            sys.exit(f"header: {len(self.faults)} differences")
 
     def block(self, case):
         block = bytearray(self.header.constants["BLOCK_SIZE"])
@@ -221,7 +243,7 @@ class Check:
         for sentence in SENTENCES:
             self.expect(sentence in header.prose, f"missing: {sentence}")
         for name, constant in header.enumerators.items():
-            self.expect(constant == name.upper(), f"{name} is called CETV_{constant}")
+            self.expect(constant == name.upper(), f"{name} is called CETV_REFUSAL_{constant}")
         for name, number in CODES.items():
             self.expect(header.constants.get(name) == number, f"CETV_{name} is not {number}")
 
@@ -320,6 +342,15 @@ class Check:
         for lent in (0, 1, least - 1, least, least + 1):
             self.same(f"{lent} bytes lent", case | {"lent": lent})
 
+    def wide(self, good):
+        """A payment and each of its items that pence of 32 bits cannot hold."""
+        most = self.header.constants["MAX_AMOUNT"]
+        large = {("REVALUATION", 0): self.header.constants["MAX_REVALUATION"]} | {(name, 1): most for name in BENEFIT_NAMES}
+        words = self.same("the largest benefits", good["kind 1"] | large).split()
+        for word in ("pay", "pension", "lump", "survivor"):
+            pounds = words[words.index(word) + 1] if word in words else "0"
+            self.expect(int(pounds.split(".")[0]) * 100 >= 2 ** 32, f"{word} of the largest benefits is {pounds}")
+
     def single_faults(self, good, what):
         """For each refusal that is possible beside the others, what brings it about in a good case."""
         case, limit = good[what], self.header.constants
@@ -402,20 +433,21 @@ def main():
     size, pointer = ctypes.c_size_t, ctypes.c_char_p
     library.cetv_value_block.argtypes = [pointer, size, ctypes.c_uint32, pointer, size]
     library.cetv_value_block.restype = size
-    check = Check(Header(header_path), library)
+    try:
+        check = Check(Header(header_path), library)
+    except ValueError as error:
+        sys.exit(f"header: {error}")
     check.words()
     check.version()
     check.names(refusals)
+    check.report()
     good = check.good_cases()
     for what, case in good.items():
         check.expect(" pay " in check.same(what, case), f"{what} is not paid")
-    for compare in (check.layout, check.each_field, check.flags, check.leap_days, check.sizes, check.refusals):
+    for compare in (check.layout, check.each_field, check.flags, check.leap_days, check.sizes, check.wide, check.refusals):
         compare(good)
     check.papers()
-    for fault in check.faults[:20]:
-        print(fault)
-    if check.faults:
-        sys.exit(f"header: {len(check.faults)} differences")
+    check.report()
     print(f"header: {len(check.header.fields)} fields, {len(check.header.numbers)} refusals; {check.lines} lines as it says")
 
 

@@ -1,10 +1,16 @@
-"""What include/cetv.h says, read from its text: constants (through the C compiler), widths, refusals, rules."""
+"""What include/cetv.h says, read from its text: constants (through the C compiler), widths, refusals, rules.
+
+Its words are read in these places: the width in the comment of each field, the sentences LINES and ORDER, the rules of reserved. All
+else that the test goes by is compared word for word, in check.py.
+"""
 
 import pathlib
 import re
 import subprocess
 import tempfile
 
+LINES = r"Line n of the benefits, n from (\d) to (\d)\."
+ORDER = r"The first that applies is given, in this order: ([\d, to]+)\."
 # What the rules of reserved call the fields.
 TERMS = {
     "transfer-in payment": "TRANSFER_IN",
@@ -19,6 +25,7 @@ TERMS = {
     "Scheme Pays on the lump sum": "SCHEME_PAYS_LUMP_SUM",
     "debit lump sum": "DEBIT_LUMP_SUM",
 }
+OTHER_TARGETS = ("flags not listed", "all of the line and of its divorce debit")
 
 
 def spans(text):
@@ -45,11 +52,18 @@ class Header:
         self.read_refusals()
         self.read_reserved()
 
+    def said(self, sentence):
+        """The numbers in a sentence."""
+        found = re.search(sentence, self.prose)
+        if not found:
+            raise ValueError(f"the header has no sentence like {sentence}")
+        return found.groups()
+
     def read_constants(self):
         """Every name with its number, as a C program gets them; a name with (n) has one for each line."""
         plain = re.findall(r"^#define (CETV_\w+) \d", self.text, re.M) + re.findall(r"^ +(CETV_\w+) = ", self.text, re.M)
         of_lines = re.findall(r"^#define (CETV_\w+)\(n\) ", self.text, re.M)
-        first, last = map(int, re.search(r"Line n of the benefits, n from (\d) to (\d)\.", self.prose).groups())
+        first, last = map(int, self.said(LINES))
         self.lines = range(first, last + 1)
         names = plain + [f"{name}({n})" for name in of_lines for n in self.lines]
         prints = "".join(f'    printf("%s %lld\\n", "{name}", (long long){name});\n' for name in names)
@@ -71,25 +85,29 @@ class Header:
                 self.fields[name, n] = (self.constants[constant], int(width))
 
     def read_refusals(self):
-        found = re.findall(r"/\* (\w+): ((?:(?!\*/).)*?) ?\*/\n +CETV_(\w+) = (\d+)\b", self.text, re.S)
+        found = re.findall(r"/\* (\w+): ((?:(?!\*/).)*?) ?\*/\n +CETV_REFUSAL_(\w+) = (\d+)\b", self.text, re.S)
         self.numbers = {name: int(number) for name, _, _, number in found}
         self.enumerators = {name: constant for name, _, constant, _ in found}
         self.rules = {name: flat(rule) for name, rule, _, _ in found}
         names = {number: name for name, number in self.numbers.items()}
-        stated = re.search(r"is given, in this order: ([\d, to]+)\.", self.prose).group(1)
-        self.order = [names[number] for number in spans(stated)]
+        order = spans(*self.said(ORDER))
+        if sorted(order) != sorted(names):
+            raise ValueError(f"the order {order} is not of the refusals {sorted(names)}")
+        self.order = [names[number] for number in order]
 
     def read_reserved(self):
         """The bytes of no field, and each rule: kinds and the flag that must be absent (or None), lines, what is zero."""
-        self.reserved = []
-        _, *rules = self.rules["reserved"].split(" - ")
+        self.reserved, self.gaps = [], []
+        _, *rules = self.rules.get("reserved", "").split(" - ")
         for rule in rules:
-            condition, targets = rule.split(": ")
+            condition, _, targets = rule.partition(": ")
             if condition == "positions of no field":
                 self.gaps = spans(targets)
                 continue
             for part in condition.split(", and "):
-                self.reserved.append(self.condition(part) + (targets.split(", "),))
+                self.reserved.append(self.condition(part) + (self.targets(targets),))
+        if not self.gaps:
+            raise ValueError("the header's rules of reserved have no positions of no field")
 
     def condition(self, text):
         kinds = re.match(r"kinds? (\d)(?: and (\d))?", text)
@@ -105,6 +123,14 @@ class Header:
             int(flag.group(1)) if flag else None,
             "past the count" if text == "lines past the count" else some_lines,
         )
+
+    def targets(self, text):
+        """What a rule of reserved wants zero: fields, flags, or all of the lines past the count."""
+        targets = text.split(", ")
+        for target in targets:
+            if target not in (*TERMS, *OTHER_TARGETS) and not re.fullmatch(r"flag \d", target):
+                raise ValueError(f"a rule of reserved that the test cannot read: {text}")
+        return targets
 
     def flags(self):
         return [number for name, number in self.constants.items() if name.startswith("FLAG_")]

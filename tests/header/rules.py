@@ -18,7 +18,9 @@ TABLES = {"KIND_1995": "1995", "KIND_2015": "2015", "KIND_2008": "2008m"}
 def read_factors():
     """By table and row: the factors of pension, lump sum, survivor's pension and deduction, in hundredths."""
     rows = {}
-    for line in pathlib.Path("figures/factors.txt").read_text().splitlines()[1:]:
+    for line in pathlib.Path("figures/factors.txt").read_text().splitlines():
+        if line.startswith("#"):
+            continue
         table, row, *figures = line.split()
         figures = [int(figure.replace(".", "")) for figure in figures]
         rows[table, int(row)] = [figures[0], 0, figures[1], 0] if table == "2015" else figures

@@ -63,10 +63,15 @@ def lines(text):
     return re.findall(r"^\d+ \d+ .*", text, re.M)
 
 
+def must(holds, otherwise):
+    if not holds:
+        raise ValueError(otherwise)
+
+
 def value(written):
     """A sum in pounds, exactly."""
     plain = written.replace("£", "").replace(",", "").replace("×", "*").replace("−", "-")
-    assert re.fullmatch(r"[0-9.+*() -]+", plain), f"no sum: {written}"
+    must(re.fullmatch(r"[0-9.+*() -]+", plain), f"no sum: {written}")
     return eval(re.sub(r"[0-9.]+", r"Fraction('\g<0>')", plain))
 
 
@@ -74,8 +79,8 @@ def check_sum(cell):
     """What stands on either side of '=' is equal; what is rounded is the nearest penny, halves up. A remark follows ';'."""
     exact, _, rounded = cell.split(";")[0].partition(", rounded to ")
     values = [value(part) for part in exact.split(" = ")]
-    assert len(set(values)) == 1, f"not equal: {cell}"
-    assert not rounded or value(rounded) == Fraction(floor(values[0] * 100 + Fraction(1, 2)), 100), f"not so rounded: {cell}"
+    must(len(set(values)) == 1, f"not equal: {cell}")
+    must(not rounded or value(rounded) == Fraction(floor(values[0] * 100 + Fraction(1, 2)), 100), f"not so rounded: {cell}")
 
 
 def check_sums(text, sections):
@@ -86,7 +91,8 @@ def check_sums(text, sections):
         above = "".join(sections[:at + 1])
         for pounds, decimals in re.findall(r" (\d+)\.(\d+)", lines(section)[0]):
             amount = f"£{int(pounds):,}.{decimals}"
-            assert int(pounds + decimals) == 0 or f"= {amount}" in above or f"+ {amount} =" in above, f"not worked out: {amount}"
+            worked_out = f"= {amount}" in above or f"+ {amount} =" in above
+            must(int(pounds + decimals) == 0 or worked_out, f"not worked out: {amount}")
     print(f"{len(sums)} sums of docs/LINES.md are right")
 
 

@@ -13,7 +13,7 @@
 tests/reading, tests/valuing, tests/calendar, tests/lines, examples/make.py and bench/make_blocks.py share it. tests/second, in
 Rust, and bench/plain.c tell the same rules apart from it.
 
-What shows a mistake in it: each vector of tests/reading and tests/valuing states its answer by hand, and the script stops where
-the model gives another; the library answers the same vectors and pairs of dates (crates/blocks_check, valuing_check and
-calendar_check). It needs Python 3.9 or later and its standard library.
+What shows a mistake in it: each vector of tests/reading and tests/valuing states its answer beside it, by hand but for whole
+tables, and the script stops where the model gives another; the library answers the same vectors and pairs of dates
+(crates/blocks_check, valuing_check and calendar_check). It needs Python 3.9 or later and its standard library.
 """

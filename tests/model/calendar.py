@@ -1,4 +1,8 @@
-"""The calendar. Days are those of Python's datetime; birthdays are counted one by one, and years are tried one by one."""
+"""The calendar. Days are those of Python's datetime; birthdays are counted one by one, and years are tried one by one.
+
+What shows a mistake: the payments and refusals that tests/valuing/entitlement.py states around birthdays and line dates (`dates`,
+`ages`, `leap_days`), and the real days that tests/reading/ranges.py does.
+"""
 
 import datetime
 

@@ -1,4 +1,9 @@
-"""Refusals 3 to 17, each as a test of the case, and the order in which they are tested."""
+"""Refusals 3 to 17, each as a test of the case, and the order in which they are tested.
+
+What shows a mistake: the refusals that tests/reading and tests/valuing state at the edges of each rule; for the order, those of two
+refusals at once (order.py in both). LIMIT stands by name in the vectors too; there the payments at the limit show it
+(tests/valuing/form.py, `amounts`).
+"""
 
 import datetime
 

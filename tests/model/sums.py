@@ -1,4 +1,8 @@
-"""What a case is worth, as fractions of a penny until it is rounded. Refusals 3 to 11 and 17 do not apply to the case."""
+"""What a case is worth, as fractions of a penny until it is rounded. Refusals 3 to 11 and 17 do not apply to the case.
+
+What shows a mistake: the payments with their items that tests/valuing states, of the papers' figures and examples (papers.py), of
+each step (sum_of_lines.py), of divorce debits (divorce.py) and of the 2008 section (section_2008_sum.py).
+"""
 
 from fractions import Fraction
 

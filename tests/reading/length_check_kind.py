@@ -22,7 +22,8 @@ def length():
 
 
 def swapped(block, first, second):
-    assert block[first] != block[second]
+    if block[first] == block[second]:
+        raise ValueError(f"bytes {first} and {second} are the same")
     return with_bytes(block, {first: block[second], second: block[first]})
 
 

@@ -46,10 +46,14 @@ class Driver:
             data = data[os.write(self.sink, data) :]
 
     def ended(self, what):
-        """It has come to its end by itself, and said nothing on standard error."""
-        said = self.program.stderr.read()
-        if self.program.wait(PATIENCE) != 0 or said:
-            sys.exit(f"values: slow: {what}: status {self.program.returncode}, {said!r}")
+        """It comes to its end by itself, writes no more, and has said nothing on standard error."""
+        try:
+            rest, said = self.program.communicate(timeout=PATIENCE)
+        except subprocess.TimeoutExpired:
+            self.program.kill()
+            sys.exit(f"values: slow: not so: {what}: it does not end")
+        if self.program.returncode != 0 or rest or said:
+            sys.exit(f"values: slow: not so: {what}: status {self.program.returncode}, {rest!r}, {said!r}")
 
 
 def hand_over(driver, data, report, what):

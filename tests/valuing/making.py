@@ -11,10 +11,13 @@ UNITS = {"pay": 100, "pension": 10_000, "lump": 10_000, "survivor": 10_000, "ded
 
 def paid(pay, **stated):
     stated = {"pay": pay} | stated
+    if not set(stated) <= set(UNITS):
+        raise ValueError(f"not an item: {sorted(set(stated) - set(UNITS))}")
     amounts = {}
     for name, unit in UNITS.items():
         amount = Fraction(stated.get(name, "0").replace(",", "")) * unit
-        assert amount.denominator == 1 and set(stated) <= set(UNITS)
+        if amount.denominator != 1:
+            raise ValueError(f"{name}: {stated[name]} is too fine")
         amounts[name] = amount.numerator
     return amounts
 

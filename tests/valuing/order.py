@@ -50,7 +50,7 @@ def together(*several):
     return made | ({"flags": flags} if flags else {})
 
 
-def order_of_new_faults():
+def order_with_sex_and_choice_optants():
     """What must be zero in kind 3, the sex and flag 4 in other kinds: each with one fault of every other refusal."""
     fours = {
         "the line's date": {"line 1 date": (2035, 5, 10)},

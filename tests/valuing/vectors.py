@@ -51,7 +51,7 @@ GROUPS = (
     section_2008_sum.kind_3_scheme_pays, section_2008_sum.kind_3_negative, section_2008_sum.kind_3_rounding,
     section_2008_sum.kind_3_survivor, section_2008_sum.kind_3_choice_optants, section_2008_sum.kind_3_divorce,
     section_2008_sum.kind_3_award, section_2008_sum.kind_3_avc, section_2008_sum.kind_3_largest,
-    order.order_of_new_faults,
+    order.order_with_sex_and_choice_optants,
 )
 
 

@@ -18,7 +18,7 @@ use Rattle.runs.specs.declared.Source.{Source}
 use Rattle.runs.specs.declared.Source.the-variants.{Open, Ended, Failed}
 use Rattle.blocks.specs.Files.{blockCount, allBlocks}
 use Rattle.runs.specs.Run.{limit, lines, left, wantedAfter, counted}
-use Rattle.runs.specs.Steps.{kept, wantedUnless, ends, chunk, countsAfter, wantedNext, stepText, Reported, Continues}
+use Rattle.runs.specs.Steps.{bytesTaken, wantedUnless, ends, chunk, countsAfter, wantedNext, stepText, Reported, Continues}
 use Rattle.blocks.proofs.Files.{length-blocks}
 use Rattle.runs.proofs.Left.{left-after}
 use Rattle.runs.proofs.Reports.{left-reported, reported-more, reported-whole}
@@ -34,9 +34,9 @@ data Way (t : Counts) (input : List ℕ) (got : ℕ) (source : Source) : Type 0 
   more : source ≡ Open → length (chunk t input got source) ≡ min got (wantedAfter t) - min got (wantedAfter t) % 512
       → wantedNext t input got source ≡ wantedAfter (countsAfter t input got source) → Way t input got source
 
-chunk-length : (t : Counts) (input : List ℕ) (got : ℕ) (source : Source) → length (chunk t input got source) ≡ min (kept source (min got (wantedAfter t))) (length input)
+chunk-length : (t : Counts) (input : List ℕ) (got : ℕ) (source : Source) → length (chunk t input got source) ≡ min (bytesTaken source (min got (wantedAfter t))) (length input)
 unfolding chunk
-chunk-length t input got source = length-take (kept source (min got (wantedAfter t))) input
+chunk-length t input got source = length-take (bytesTaken source (min got (wantedAfter t))) input
 
 module _ (t : Counts) (input : List ℕ) (got : ℕ) (size : length input ≡ 65536) where
   way : (source : Source) → Way t input got source
@@ -79,7 +79,7 @@ module _ (t : Counts) (input : List ℕ) (got : ℕ) (source : Source) where
   w = wantedNext t input got source
 
   -- the parts of a step, one after the other
-  pub step-made : {n m used end : ℕ} {counts : Counts} {last : Bool} {out₀ out₁ out₂ : List ℕ} → n ≡ kept source (min got (wantedAfter t))
+  pub step-made : {n m used end : ℕ} {counts : Counts} {last : Bool} {out₀ out₁ out₂ : List ℕ} → n ≡ bytesTaken source (min got (wantedAfter t))
       → counts ≡ counted t (allBlocks (take n input)) → m ≡ wantedUnless source counts → last ≡ ends source m
       → Written out₀ 0 (lines (t .blocks + 1) (allBlocks (take n input))) out₁ used
       → Written out₁ used (cond last (endLine (counts .blocks) (counts .paid)) []) out₂ end

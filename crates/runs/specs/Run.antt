@@ -42,7 +42,7 @@ reportOf file = header ++ lines 1 (blocksRead file) ++ endLine (length (blocksRe
 abbrev pub left : Counts → ℕ
 left t = cond (leb (t .paid) (t .blocks)) (limit - t .blocks) 0
 
--- how many bytes are read next: 128 blocks, or those that are left
+-- how many bytes the next step takes at most: 128 blocks, or those that are left
 abbrev pub wantedAfter : Counts → ℕ
 wantedAfter t = min 65536 (512 * left t)
 

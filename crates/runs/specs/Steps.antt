@@ -18,15 +18,15 @@ abbrev pub none : Counts
 none = record { blocks = 0; paid = 0 }
 
 abbrev pub startOf : Progress
-startOf = record { counts = none; wanted = wantedAfter none; length = length header }
+startOf = record { counts = none; wanted = wantedAfter none; held = 0; length = length header }
 
--- how many of n bytes count: a last part of a block counts only where the file has ended
-abbrev pub kept : Source → ℕ → ℕ
-kept Open n = n - n % 512
-kept Ended n = n
-kept Failed n = n - n % 512
+-- how many of n bytes a step takes: a last part of a block counts only where the file has ended
+abbrev pub bytesTaken : Source → ℕ → ℕ
+bytesTaken Open n = n - n % 512
+bytesTaken Ended n = n
+bytesTaken Failed n = n - n % 512
 
--- how many bytes are read next: none where the file has ended or a read failed
+-- how many bytes the next step takes at most: none where the file has ended or a read failed
 abbrev pub wantedUnless : Source → Counts → ℕ
 wantedUnless Open t = wantedAfter t
 wantedUnless Ended t = 0
@@ -46,7 +46,7 @@ lastPart input got = take (min got 65536 % 512) (drop (min got 65536 - min got 6
 module _ (t : Counts) (input : List ℕ) (got : ℕ) (source : Source) where
   -- the bytes that count, no more than were wanted
   unfoldable pub chunk : List ℕ
-  chunk = take (kept source (min got (wantedAfter t))) input
+  chunk = take (bytesTaken source (min got (wantedAfter t))) input
 
   abbrev pub countsAfter : Counts
   countsAfter = counted t (allBlocks chunk)
@@ -59,7 +59,7 @@ module _ (t : Counts) (input : List ℕ) (got : ℕ) (source : Source) where
   stepText = lines (t .blocks + 1) (allBlocks chunk) ++ cond (ends source wantedNext) (endLine (countsAfter .blocks) (countsAfter .paid)) []
 
   abbrev pub stepOf : Progress
-  stepOf = record { counts = countsAfter; wanted = wantedNext; length = length stepText }
+  stepOf = record { counts = countsAfter; wanted = wantedNext; held = length (lastPart input (min got (wantedAfter t))); length = length stepText }
 
 -- a text that reports the bytes done: they are whole blocks, no more than may be read; the counts are theirs, and the text is the
 -- header and their lines

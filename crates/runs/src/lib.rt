@@ -4,7 +4,6 @@ mod line;
 mod part;
 mod run;
 
-pub use part::keep_part;
 pub use run::start;
 pub use run::step;
 
@@ -27,10 +26,12 @@ pub struct Counts {
     pub paid: u32,
 }
 
-// How far a run has come: the counts; how many bytes of the file to read next, 0 where the run is over; and how many bytes at
-// the start of the buffer to write before that.
+// How far a run has come: the counts; how many bytes the next step takes at most, 0 where the run is over; how many of these stand at
+// the start of the input already, a part of a block that waits for its rest; and how many bytes at the start of the output to write
+// before that.
 pub struct Progress {
     pub counts: Counts,
     pub wanted: usize,
+    pub held: usize,
     pub length: usize,
 }

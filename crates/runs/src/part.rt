@@ -9,7 +9,7 @@ use crate::chunk::least;
 use buffers::put;
 
 // Moves the last part of a block among the first `got` bytes to the start, and answers how many bytes it has.
-pub fn keep_part(input: &mut Input, got: usize) -> usize
+pub(crate) fn keep_part(input: &mut Input, got: usize) -> usize
     ensures answer { λ r. ⌜ r ≡ length (lastPart (now (input .entry)) got) ⌝ }
     ensures bytes { λ r. ⌜ now (input .exit) ≡ lastPart (now (input .entry)) got ++ drop r (now (input .entry)) ⌝ }
     ensures few { λ r. ⌜ r < 512 ⌝ }

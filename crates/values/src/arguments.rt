@@ -1,4 +1,7 @@
-// What the program is asked by its arguments, and the usage text. Without an argument it values the case file on standard input.
+// What the program is asked by its arguments. Without one it values the case file on standard input.
+ghost use mathlib.Core.Path.{_≡_};
+ghost use Rattle.buffers.specs.Text.{ascii};
+use check::same;
 
 pub(crate) enum Request {
     Report,
@@ -7,23 +10,10 @@ pub(crate) enum Request {
     Unknown,
 }
 
-// Whether two texts are the same.
-fn same(a: &[u8], b: &[u8]) -> bool {
-    if a.len() != b.len() {
-        return false;
-    }
-    let mut i: usize = 0;
-    while i < a.len() {
-        if a[i] != b[i] {
-            return false;
-        }
-        i += 1;
-    }
-    true
-}
-
-// A word longer than those known, and an empty one, have a length of 0 here and are known as little.
-fn asked_by(word: &[u8]) -> Request {
+fn asked_by(word: &[u8]) -> Request
+    ensures help { λ r. ⌜ (now (word .entry) ≡ ascii "--help" → r ≡ Request.Help) × (r ≡ Request.Help → now (word .entry) ≡ ascii "--help") ⌝ }
+    ensures version { λ r. ⌜ (now (word .entry) ≡ ascii "--version" → r ≡ Request.Version) × (r ≡ Request.Version → now (word .entry) ≡ ascii "--version") ⌝ }
+{
     if same(word, b"--help") {
         return Request::Help;
     }
@@ -33,6 +23,7 @@ fn asked_by(word: &[u8]) -> Request {
     Request::Unknown
 }
 
+// An argument that does not fit the buffer comes as an empty one, which is not known either.
 pub(crate) fn asked() -> Request {
     let count = os::arg_count();
     if count < 2 {

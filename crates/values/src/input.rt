@@ -2,6 +2,7 @@
 ghost use Prim.Native.Nat.{_≤_};
 ghost use mathlib.Core.Path.{_≡_};
 ghost use lib.ListN.{length, take};
+use crate::MOST_TRIES;
 use libc::STDIN_FILENO;
 use runs::Input;
 use runs::Source;
@@ -12,11 +13,10 @@ pub(crate) struct Filled {
     pub(crate) source: Source,
 }
 
-// One read, made again where a signal interrupted it before a byte came. Every loop here is proved to end, hence the limit; no run
-// comes near it.
+// One read, made again where a signal interrupted it before a byte came.
 fn read_once(buf: &mut [u8]) -> isize {
     let mut tries: u32 = 0;
-    while tries < 4294967295 {
+    while tries < MOST_TRIES {
         let got = libc::read(STDIN_FILENO, buf);
         if 0 <= got {
             return got;
@@ -34,7 +34,7 @@ fn read_once(buf: &mut [u8]) -> isize {
 fn fill(buf: &mut [u8], held: usize, wanted: usize) -> Filled
     requires { ⌜ (held ≤ wanted) × (512 ≤ wanted) ⌝ }
     requires { ⌜ wanted ≤ length (now buf) ⌝ }
-    ensures { λ r. ⌜ r .length ≤ wanted ⌝ }
+    ensures { λ r. ⌜ (held ≤ r .length) × (r .length ≤ wanted) ⌝ }
     ensures { λ r. ⌜ (r .source ≡ Source.Open → 512 ≤ r .length) ⌝ }
     ensures { λ r. ⌜ take held (now (buf .exit)) ≡ take held (now (buf .entry)) ⌝ }
 {
@@ -70,10 +70,11 @@ fn has_failed(source: Source) -> bool {
     }
 }
 
-// Reads what is wanted, and says where that failed.
+// Reads after the bytes that are held. A failure is said on standard error.
 pub(crate) fn read(input: &mut Input, held: usize, wanted: usize) -> Filled
     requires { ⌜ (held ≤ wanted) × (512 ≤ wanted) ⌝ }
     requires { ⌜ wanted ≤ 65536 ⌝ }
+    ensures { λ r. ⌜ (held ≤ r .length) × (r .length ≤ wanted) ⌝ }
     ensures { λ r. ⌜ (r .source ≡ Source.Open → 512 ≤ r .length) ⌝ }
     ensures { λ r. ⌜ take held (now (input .exit)) ≡ take held (now (input .entry)) ⌝ }
 {

@@ -11,18 +11,20 @@ use libc::STDERR_FILENO;
 use libc::STDOUT_FILENO;
 use output::say_usage;
 use output::say_version;
-use output::write;
+use output::write_report;
 
+// How often a call that a signal interrupted is made again. Every loop is proved to end, hence a limit; no run comes near it.
+const MOST_TRIES: u32 = 4294967295;
+
+// What a step formed is written whether or not more is wanted, hence `&` after the write.
 fn value_file() {
     let mut input = [0u8; 65536];
     let mut out = [0u8; 33024];
     let mut run = runs::start(&mut out);
-    let mut held: usize = 0;
-    while write(&out, run.length) & (0 < run.wanted) {
-        let filled = read(&mut input, held, run.wanted);
+    while write_report(&out, run.length) & (0 < run.wanted) {
+        let filled = read(&mut input, run.held, run.wanted);
         let source = filled.source;
-        run = runs::step(run.counts, &input, filled.length, source, &mut out);
-        held = runs::keep_part(&mut input, filled.length);
+        run = runs::step(run.counts, &mut input, filled.length, source, &mut out);
     }
 }
 

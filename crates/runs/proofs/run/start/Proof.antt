@@ -27,7 +27,7 @@ returns c =
     let room : 256 ≤ length (now (args .out)) = search needs in
     let n : end-of .result ≡ 16 = end-of .ensures 16 (form-header .ensures .0 ∙ line-formed (length (now (args .out))) header room) in
     let b = form-header .ensures .1 .1 ∙ line-stands (now (args .out)) header room in
-    (λ i. record { counts = record { blocks = 0; paid = 0 }; wanted = 65536; length = n i }, (rw n b, rw (front header _ n b) reported-none))
+    (λ i. record { counts = record { blocks = 0; paid = 0 }; wanted = 65536; held = 0; length = n i }, (rw n b, rw (front header _ n b) reported-none))
 
 pub start-spec : {M : Type 1} → statement M
 start-spec = tie.close (tie.spec (λ c κs. search needs) end-of-requires returns)

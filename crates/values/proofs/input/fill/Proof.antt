@@ -19,13 +19,13 @@ returns : tie.Need-returns Inv-loop μ-loop
 returns c =
     let loop = c .before .before .before .before .before .before .loop in
     let inv = loop .inv in
-    (inv .0 .1, (λ e. let z : _≡_ {A = ℕ} 0 1 = cc in absurd (omega arith), held-kept _ _ _ _ _ (inv .0 .0) (omega arith) (inv .1 .1)))
+    (inv .0, (λ e. let z : _≡_ {A = ℕ} 0 1 = cc in absurd (omega arith), held-kept _ _ _ _ _ (inv .0 .0) (omega arith) (inv .1 .1)))
 
 returns-2 : tie.Need-returns-2 Inv-loop μ-loop
 returns-2 c =
     let loop = c .before .before .before .before .before .before .before .before .before .before .loop in
     let inv = loop .inv in
-    (inv .0 .1, (λ e. let z : _≡_ {A = ℕ} 0 1 = cc in absurd (omega arith), held-kept _ _ _ _ _ (inv .0 .0) (omega arith) (inv .1 .1)))
+    (inv .0, (λ e. let z : _≡_ {A = ℕ} 0 1 = cc in absurd (omega arith), held-kept _ _ _ _ _ (inv .0 .0) (omega arith) (inv .1 .1)))
 
 loop-again : tie.Need-loop-again Inv-loop μ-loop
 loop-again c =
@@ -36,7 +36,7 @@ loop-again c =
 returns-3 : tie.Need-returns-3 Inv-loop μ-loop
 returns-3 c =
     let loop = c .before .loop in
-    (loop .inv .0 .1, (λ e. omega arith, loop .inv .1 .1))
+    (loop .inv .0, (λ e. omega arith, loop .inv .1 .1))
 
 pub fill-spec : {M : Type 1} → statement M
 fill-spec =

@@ -7,10 +7,10 @@ use Rattle.values.proofs.output.write_whole.Statement.{statement}
 use Rattle.values.proofs.output.write_whole.Tie as tie
 
 abbrev Inv-loop : tie.InvT-loop
-Inv-loop fd bytes n₀ t5 n = n ≤ length bytes
+Inv-loop fd bytes n₀ n = n ≤ length bytes
 
 abbrev μ-loop : tie.MeasureT-loop
-μ-loop fd bytes n₀ t5 n = length bytes - n
+μ-loop fd bytes n₀ n = length bytes - n
 
 pub write-whole-spec : {M : Type 1} → statement M
 write-whole-spec =
@@ -20,5 +20,5 @@ write-whole-spec =
     μ-loop
     (λ c. search needs) (λ c. search needs) (λ c. search needs) (λ c. search needs)
     (λ c κs. search needs) (λ c. search needs) (λ c. search needs) (λ c. search needs)
-    (λ c κs. search needs) (λ c. search needs) (λ c κs. search needs) (λ c. search needs)
-    (λ c. search needs) (λ c. search needs) (λ c. search needs) (λ c. search needs))
+    (λ c κs. search needs) (λ c κs. search needs) (λ c. search needs) (λ c. search needs)
+    (λ c. search needs) (λ c. search needs) (λ c. search needs))
