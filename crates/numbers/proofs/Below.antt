@@ -1,12 +1,7 @@
 -- The laws of sums and of any, over the numbers below n.
 -- Assumes nothing.
-use Prim.Native.Nat.{ℕ, zero, suc, ◌+◌, ◌*◌, ◌≤◌, ◌<◌}
-use mathlib.Core.Path.{◌≡◌, refl, ◌∙◌}
-use mathlib.Core.Bool.{Bool, false, ◌||◌}
-use native.Mathlib.Nat.{add-zero, add-suc, mul-add, zero-mul, suc-mul, mul_comm}
-use native.Mathlib.Numerals.{add-one}
-use native.Mathlib.Decide.{ℕ_discrete}
-use native.Mathlib.Omega.{arith}
+use Rattle.std.proofs.Common.{ℕ, zero, suc, ◌+◌, ◌*◌, ◌≤◌, ◌<◌, ◌≡◌, refl, ◌∙◌, Bool, false, ◌||◌, add-zero, add-suc, mul-add, zero-mul, suc-mul, mul_comm, add-one, arith}
+use Rattle.std.proofs.Math.Decide.{ℕ_discrete}
 use Rattle.numbers.specs.Below.{sum_below, any_below}
 use Rattle.numbers.proofs.Tests.{or_false}
 

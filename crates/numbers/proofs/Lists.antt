@@ -1,12 +1,8 @@
 -- What a test over a list says of each member.
 -- Assumes nothing.
-use Prim.Native.Nat.{ℕ, zero, suc, ◌-◌, ◌≤◌, ◌<◌}
-use mathlib.Core.Bool.{Bool, true, false, not, ◌||◌, and-eq-true_iff, false≢true}
-use mathlib.Core.List.{List, [], ◌∷◌}
-use mathlib.Core.Path.{◌≡◌, refl, sym, ap, ◌∙◌}
-use native.Mathlib.Omega.{arith}
-use lib.ListN.{length, drop, get_or}
-use lib.Seq.{drop-cons, drop-length}
+use Rattle.std.proofs.Common.{ℕ, zero, suc, ◌-◌, ◌≤◌, ◌<◌, Bool, true, false, not, ◌||◌, List, [], ◌∷◌, ◌≡◌, refl, sym, ap, ◌∙◌, arith, length, drop, get_or, drop-cons}
+use Rattle.std.proofs.Math.Bool.{and-eq-true_iff, false≢true}
+use Rattle.std.proofs.Math.Seq.{drop-length}
 use borrow.Author.Tests.{not-false}
 use Rattle.numbers.specs.Lists.{any, every, Each}
 use Rattle.numbers.proofs.Tests.{or_false}

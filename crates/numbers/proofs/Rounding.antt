@@ -1,10 +1,7 @@
 -- The laws of rounding: it keeps the order, and what it gives is never further off than half a unit.
 -- Assumes nothing.
-use Prim.Native.Nat.{ℕ, ◌+◌, ◌*◌, ◌/◌, ◌%◌, ◌≤◌, ◌<◌}
-use native.Mathlib.Nat.{div-zero, div-mul-le_self, lt-div-mul-add, le-div_iff_mul-le, le_trans, mul_assoc, mul-div-mul_right, add-mul, one-mul, div-add-mod', div-eq_of_lt-le, mul-le-mul_left}
-use native.Mathlib.Omega.{arith}
-use lib.Dec.{lit<}
-use mathlib.Core.Path.{◌≡◌}
+use Rattle.std.proofs.Common.{ℕ, ◌+◌, ◌*◌, ◌/◌, ◌%◌, ◌≤◌, ◌<◌, div-mul-le_self, le-div_iff_mul-le, le_trans, mul_assoc, add-mul, one-mul, div-add-mod', mul-le-mul_left, arith, lit<, ◌≡◌}
+use Rattle.std.proofs.Math.Nat.{div-zero, lt-div-mul-add, mul-div-mul_right, div-eq_of_lt-le}
 use Rattle.numbers.specs.Rounding.{nearest, Within}
 
 pub nearest_mono : {d m n : ℕ} → 0 < d → m ≤ n → nearest d m ≤ nearest d n

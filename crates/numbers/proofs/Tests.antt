@@ -1,8 +1,7 @@
 -- What tests that are joined by `and` or `or` tell of each. The kit has more: mathlib.Core.Bool, borrow.Author.Tests.
 -- Assumes nothing.
-use mathlib.Core.Bool.{Bool, true, false, ◌&&◌, ◌||◌, true≢false, false≢true}
-use mathlib.Core.List.{List, [], ◌∷◌}
-use mathlib.Core.Path.{◌≡◌, refl}
+use Rattle.std.proofs.Common.{Bool, true, false, ◌&&◌, ◌||◌, true≢false, List, [], ◌∷◌, ◌≡◌, refl}
+use Rattle.std.proofs.Math.Bool.{false≢true}
 
 -- where the whole does not hold but the first test does, the second does not
 pub and_right_false : (s t : Bool) → s ≡ true → (s && t) ≡ false → t ≡ false

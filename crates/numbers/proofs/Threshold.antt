@@ -1,13 +1,7 @@
 -- A test with a threshold m: it holds of the numbers below m and of no other. How many and the fewest both tell m.
 -- Assumes nothing.
-use Prim.Native.Nat.{ℕ, zero, suc, ◌+◌, ◌-◌, ◌≤◌, ◌<◌, min}
-use mathlib.Core.Path.{◌≡◌, refl}
-use mathlib.Core.Bool.{Bool, true, false, cond, not}
-use native.Mathlib.Nat.{zero-add, suc-add, sub-add_cancel}
-use native.Mathlib.Decide.{dec_lt}
-use native.Mathlib.Omega.{arith}
-use lib.Dec.{ltb}
-use borrow.Author.Tests.{lt-ltb, le-ltb, ltb-true, ltb-false}
+use Rattle.std.proofs.Common.{ℕ, zero, suc, ◌+◌, ◌-◌, ◌≤◌, ◌<◌, min, ◌≡◌, refl, Bool, true, false, cond, not, zero-add, suc-add, sub-add_cancel, arith, ltb, lt-ltb, le-ltb, ltb-true, ltb-false}
+use Rattle.std.proofs.Math.Decide.{dec_lt}
 use Rattle.numbers.specs.Below.{how_many, fewest}
 
 pub record Threshold (t : ℕ → Bool) (m : ℕ) : Type 0 where

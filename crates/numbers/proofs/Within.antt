@@ -1,8 +1,6 @@
 -- The laws of `Within`: how far apart products and sums lie.
 -- Assumes nothing.
-use Prim.Native.Nat.{ℕ, zero, suc, ◌*◌, ◌<◌}
-use native.Mathlib.Nat.{mul-le-mul_right, add-mul}
-use native.Mathlib.Omega.{arith}
+use Rattle.std.proofs.Common.{ℕ, zero, suc, ◌*◌, ◌<◌, mul-le-mul_right, add-mul, arith}
 use Rattle.numbers.specs.Rounding.{Within}
 use Rattle.numbers.specs.Below.{sum_below}
 
