@@ -1,13 +1,8 @@
 -- The laws of numbers in bytes, over the width and the position.
 -- Assumes nothing.
-use Prim.Native.Nat.{ℕ, zero, suc, ◌+◌, ◌*◌, ◌^◌, ◌≤◌, ◌<◌}
-use native.Mathlib.Nat.{mul_assoc, pow-succ'}
-use native.Mathlib.Omega.{arith}
-use mathlib.Core.List.{List, [], ◌∷◌, ◌++◌}
-use mathlib.Core.Path.{◌≡◌}
-use lib.ListN.{length, take, drop, get_or, length-drop}
-use lib.Seq.{drop-cons, drop-drop, take-add, length-take-le}
-use borrow.Author.Tests.{le-leb, lt-leb}
+use Rattle.std.proofs.Common.{ℕ, zero, suc, ◌+◌, ◌*◌, ◌^◌, ◌≤◌, ◌<◌, mul_assoc, arith, List, [], ◌∷◌, ◌++◌, ◌≡◌, length, take, drop, get_or, length-drop, drop-cons, drop-drop, take-add, length-take-le, le-leb}
+use Rattle.std.proofs.Math.Nat.{pow-succ'}
+use borrow.Author.Tests.{lt-leb}
 use Rattle.buffers.specs.Bytes.{little_endian, number_at}
 
 -- bytes and then more bytes

@@ -1,16 +1,8 @@
 -- The laws of numbers in decimal: how many digits they have, and writing digits from the last to the first.
 -- Assumes nothing.
-use Prim.Native.Nat.{ℕ, zero, suc, ◌+◌, ◌-◌, ◌*◌, ◌/◌, ◌%◌, ◌^◌, ◌≤◌, ◌<◌}
-use mathlib.Core.List.{List, [], ◌∷◌, ◌++◌, append_assoc, append-nil}
-use mathlib.Core.Logic.{⊎_elim, ◌⊎◌, inl, inr}
-use mathlib.Core.Path.{◌≡◌, refl, sym, ap, ◌∙◌}
-use native.Mathlib.Decide.{dec_lt}
-use native.Mathlib.Nat.{not-suc-le-zero, one-le-pow, pow-suc, pow-succ', mul_assoc, add-suc, add-zero, div-one, div-lt_iff_lt-mul, le-div_iff_mul-le, add-mul-div_left, add-mul-mod_self_left, mod-eq_of_lt, mod-add-div, div-div-eq-div-mul}
-use native.Mathlib.Numerals.{add-one}
-use native.Mathlib.Omega.{arith}
-use lib.Dec.{lit<}
-use lib.ListN.{length, set, length-set, length-append}
-use borrow.Author.Tests.{lt-ltb, le-ltb}
+use Rattle.std.proofs.Common.{ℕ, zero, suc, ◌+◌, ◌-◌, ◌*◌, ◌/◌, ◌%◌, ◌^◌, ◌≤◌, ◌<◌, List, [], ◌∷◌, ◌++◌, append_assoc, append-nil, ⊎_elim, ◌⊎◌, inl, inr, ◌≡◌, refl, sym, ap, ◌∙◌, not-suc-le-zero, pow-suc, mul_assoc, add-suc, add-zero, div-one, div-lt_iff_lt-mul, le-div_iff_mul-le, mod-eq_of_lt, add-one, arith, lit<, length, set, length-set, length-append, lt-ltb, le-ltb}
+use Rattle.std.proofs.Math.Decide.{dec_lt}
+use Rattle.std.proofs.Math.Nat.{one-le-pow, pow-succ', add-mul-div_left, add-mul-mod_self_left, mod-add-div, div-div-eq-div-mul}
 use Rattle.buffers.specs.Text.{put_at, Written}
 use Rattle.buffers.proofs.Writing.{put_stored, put_back, put_byte, written_length, then_written}
 use Rattle.buffers.specs.Decimal.{last_digit, last_digits, digits_within, decimal}

@@ -1,13 +1,8 @@
 -- The laws of writing a text: over the buffer, the position and the text; and of texts written one after the other.
 -- Assumes nothing.
-use Prim.Native.Nat.{ℕ, suc, ◌+◌, ◌≤◌, ◌<◌}
-use mathlib.Core.List.{List, [], ◌∷◌, ◌++◌, append_assoc, append-nil}
-use mathlib.Core.Path.{◌≡◌, refl, sym, ap, ◌∙◌}
-use native.Mathlib.Nat.{add-zero, zero-add}
-use native.Mathlib.Omega.{arith}
-use lib.ListN.{length, take, drop, set, length-set, length-append, length-take, length-drop, take-append-drop}
-use lib.Seq.{paste, take-length, take-take, take-append-le, take_at, drop_at, drop-drop, drop-append-le, drop-append-add, take-set-le, set_split, length-take-le}
-use borrow.Author.Tests.{le-leb, lt-leb}
+use Rattle.std.proofs.Common.{ℕ, suc, ◌+◌, ◌≤◌, ◌<◌, List, [], ◌∷◌, ◌++◌, append_assoc, append-nil, ◌≡◌, refl, sym, ap, ◌∙◌, add-zero, zero-add, arith, length, take, drop, set, length-set, length-append, length-take, length-drop, take-append-drop, take-take, take_at, drop_at, drop-drop, length-take-le, le-leb}
+use Rattle.std.proofs.Math.Seq.{paste, take-length, take-append-le, drop-append-le, drop-append-add, take-set-le, set_split}
+use borrow.Author.Tests.{lt-leb}
 use Rattle.buffers.specs.Text.{put_at, put_end, Written, WrittenIfRoom}
 
 module _ (buffer : List ℕ) (p : ℕ) (text : List ℕ) where
@@ -28,8 +23,8 @@ module _ (buffer : List ℕ) (p : ℕ) (text : List ℕ) where
   length_put h = ap length (put_over h) ∙ simp (length-append, length-take, length-drop) (omega arith)
 
 -- what the promise of writing gives where there is room
-pub if_room : {b t a : List ℕ} {p e : ℕ} → (a ≡ put_at b p t) × (e ≡ put_end b p t) → WrittenIfRoom b p t a e
-if_room {b} {t} {a} {p} {e} w h = let s = w.1 ∙ sym (put_some b p t h).1 in record { bytes = w.0; stop = s; room = omega arith }
+pub if_room : {b t a : List ℕ} {p e : ℕ} → a ≡ put_at b p t → e ≡ put_end b p t → WrittenIfRoom b p t a e
+if_room {b} {t} {a} {p} {e} bytes stop h = let s = stop ∙ sym (put_some b p t h).1 in record { bytes = bytes; stop = s; room = omega arith }
 
 -- the byte after a text, stored before the text is written
 pub put_stored : (b : List ℕ) (p : ℕ) (t : List ℕ) (x : ℕ) → p + length t < length b → put_at (set b (p + length t) x) p t ≡ put_at b p (t ++ (x ∷ []))

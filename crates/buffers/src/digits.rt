@@ -5,8 +5,8 @@ ghost use Rattle.buffers.specs.Decimal.{last_digits, decimal, fixed_point};
 
 // Two digits, put together in one number of two bytes, so that the compiler stores both at once.
 fn fill_two_digits(out: &mut [u8], at: usize, n: u64)
-    requires n_bound { n < 100 }
-    requires at_in_bounds { at + 2 ≤ length out.old }
+    requires small { n < 100 }
+    requires room { at + 2 ≤ length out.old }
     ensures { out.new ≡ put_at out.old at (last_digits 2 n) }
 {
     let both = 48 + n / 10 + 256 * (48 + n % 10);
@@ -15,8 +15,8 @@ fn fill_two_digits(out: &mut [u8], at: usize, n: u64)
 }
 
 fn fill_four_digits(out: &mut [u8], at: usize, n: u64)
-    requires n_bound { n < 10000 }
-    requires at_in_bounds { at + 4 ≤ length out.old }
+    requires small { n < 10000 }
+    requires room { at + 4 ≤ length out.old }
     ensures { out.new ≡ put_at out.old at (last_digits 4 n) }
 {
     fill_two_digits(out, at + 2, n % 100);
@@ -41,8 +41,8 @@ fn fill_digits(out: &mut [u8], at: usize, n: u64, k: usize)
 }
 
 fn fill_up_to_two_digits(out: &mut [u8], at: usize, n: u64)
-    requires n_bound { n < 100 }
-    requires n_in_bounds { at + length (decimal n) ≤ length out.old }
+    requires small { n < 100 }
+    requires room { at + length (decimal n) ≤ length out.old }
     ensures { out.new ≡ put_at out.old at (decimal n) }
 {
     if n < 10 {
@@ -53,9 +53,9 @@ fn fill_up_to_two_digits(out: &mut [u8], at: usize, n: u64)
 }
 
 fn fill_up_to_four_digits(out: &mut [u8], at: usize, n: u64, end: usize)
-    requires n_bound { n < 10000 }
-    requires end_value { end ≡ at + length (decimal n) }
-    requires end_in_bounds { end ≤ length out.old }
+    requires small { n < 10000 }
+    requires ends { end ≡ at + length (decimal n) }
+    requires room { end ≤ length out.old }
     ensures { out.new ≡ put_at out.old at (decimal n) }
 {
     if n < 100 {
@@ -68,8 +68,8 @@ fn fill_up_to_four_digits(out: &mut [u8], at: usize, n: u64, end: usize)
 
 // The k digits of n: the last of them are stored first, four to a division, until four or fewer are left.
 fn fill_decimal(out: &mut [u8], at: usize, n: u64, k: usize)
-    requires k_value { k ≡ length (decimal n) }
-    requires k_in_bounds { at + k ≤ length out.old }
+    requires digits { k ≡ length (decimal n) }
+    requires room { at + k ≤ length out.old }
     ensures { out.new ≡ put_at out.old at (decimal n) }
 {
     let mut end = at + k;
@@ -110,8 +110,8 @@ fn count_digits(n: u64) -> usize
 
 // Writes n in decimal from index at on, as put writes a text.
 pub fn put_decimal(out: &mut [u8], at: usize, n: u64) -> usize
-    ensures out_after { out.new ≡ put_at out.old at (decimal n) }
-    ensures value { result ≡ put_end out.old at (decimal n) }
+    ensures bytes { out.new ≡ put_at out.old at (decimal n) }
+    ensures stop { result ≡ put_end out.old at (decimal n) }
 {
     let k = count_digits(n);
     if out.len() < k {
@@ -137,8 +137,8 @@ fn fill_after_point(out: &mut [u8], at: usize, n: u64, d: usize)
 }
 
 fn fill_fixed_point(out: &mut [u8], at: usize, whole: u64, k: usize, n: u64, d: usize)
-    requires k_value { k ≡ length (decimal whole) }
-    requires d_in_bounds { at + k + 1 + d ≤ length out.old }
+    requires digits { k ≡ length (decimal whole) }
+    requires room { at + k + 1 + d ≤ length out.old }
     ensures { out.new ≡ put_at out.old at (fixed_point whole d n) }
 {
     fill_decimal(out, at, whole, k);
@@ -149,8 +149,8 @@ fn fill_fixed_point(out: &mut [u8], at: usize, whole: u64, k: usize, n: u64, d: 
 // Writes a whole part in decimal, a point and the last d digits of n from index at on, as put writes a text: whether there is room
 // is asked once for all three.
 pub fn put_fixed_point(out: &mut [u8], at: usize, whole: u64, n: u64, d: u8) -> usize
-    ensures out_after { out.new ≡ put_at out.old at (fixed_point whole d n) }
-    ensures value { result ≡ put_end out.old at (fixed_point whole d n) }
+    ensures bytes { out.new ≡ put_at out.old at (fixed_point whole d n) }
+    ensures stop { result ≡ put_end out.old at (fixed_point whole d n) }
 {
     let k = count_digits(whole);
     let size = k + 1 + d as usize;

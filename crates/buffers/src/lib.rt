@@ -1,4 +1,6 @@
 // Little-endian numbers in bytes; writing a text or a number in decimal into a lent buffer.
+#![tactic(auto)]
+
 mod digits;
 mod number;
 mod text;

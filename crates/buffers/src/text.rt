@@ -17,8 +17,8 @@ fn copy(out: &mut [u8], at: usize, text: &[u8])
 // Writes a text from index at on, and returns the index after it. Where there is no room for all of it no byte changes, and
 // the index is at.
 pub fn put(out: &mut [u8], at: usize, text: &[u8]) -> usize
-    ensures out_after { out.new ≡ put_at out.old at text.now }
-    ensures value { result ≡ put_end out.old at text.now }
+    ensures bytes { out.new ≡ put_at out.old at text.now }
+    ensures stop { result ≡ put_end out.old at text.now }
 {
     if out.len() < text.len() {
         return at;

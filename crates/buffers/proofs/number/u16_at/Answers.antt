@@ -1,0 +1,14 @@
+-- `u16_at` meets its contract.
+use Rattle.std.proofs.Common.{sym, arith}
+use Rattle.buffers.proofs.Bytes.{number_none, number_join}
+use Rattle.buffers.proofs.number.u16_at.Goals as goal
+
+pub returns-then-b-lt2 : goal.returns-then-b-lt2
+returns-then-b-lt2 c = sym (number_none 2 c.args.b.now c.args.at (omega arith))
+
+pub returns-then-b-at : goal.returns-then-b-at
+returns-then-b-at c = sym (number_none 2 c.args.b.now c.args.at (omega arith))
+
+pub returns : goal.returns
+returns c =
+    rw (c.u8_at-low.ensures, c.u8_at-high.ensures) (sym (number_join 1 1 c.args.b.now c.args.at (omega arith)))
