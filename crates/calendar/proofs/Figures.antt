@@ -1,8 +1,6 @@
 -- Figures of leap days and of the calendar's edges, by computing the definitions.
 -- Assumes nothing.
-use Prim.Native.Nat.{ℕ}
-use mathlib.Core.Path.{◌≡◌, refl}
-use mathlib.Core.Bool.{true, false}
+use Rattle.std.proofs.Common.{ℕ, ◌≡◌, refl, true, false}
 use Rattle.numbers.specs.Below.{how_many, fewest}
 use Rattle.calendar.specs.declared.Date.{Date}
 use Rattle.calendar.specs.Dates.{is_leap, days_in, is_real}

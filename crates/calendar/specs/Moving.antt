@@ -20,11 +20,11 @@ abbrev pub moved_on : ℕ → Date → Date
 moved_on n d = in_year (d.year + n) d
 
 -- age: the number of birthdays reached. The first is the birth moved on by one year, and none past the years between is
--- reached (the law age-threshold)
+-- reached (the law age_threshold)
 unfoldable pub age : Date → Date → ℕ
 age birth on = how_many (on.year - birth.year) (λ n. not (before on (moved_on (suc n) birth)))
 
 -- years ahead: the fewest years after which the first date, moved on, no longer stands before the second; so it is after any
--- more (the law ahead-threshold)
+-- more (the law ahead_threshold)
 unfoldable pub years_ahead : Date → Date → ℕ
 years_ahead from to = fewest (to.year - from.year + 1) (λ n. not (before (moved_on n from) to))

@@ -11,6 +11,7 @@ pub(crate) fn is_leap(year: u16) -> bool
 }
 
 // The days of a month; 0 where there is no such month.
+#[tactic(auto, unfolding(crate::specs::Dates::days_in))]
 fn days_in(year: u16, month: u8) -> u8
     ensures { result ≡ dates.days_in year month }
 {
@@ -26,6 +27,7 @@ fn days_in(year: u16, month: u8) -> u8
 }
 
 // Whether a date is a real day of the years 1900 to 2199.
+#[tactic(auto, unfolding(crate::specs::Dates::is_real))]
 pub fn is_real(d: Date) -> bool
     ensures { result ≡ dates.is_real d }
 {

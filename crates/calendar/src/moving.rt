@@ -7,6 +7,7 @@ use crate::Date;
 use crate::day::{before, is_leap};
 
 // The date in another year: month and day stay, but 29 February is 28 February in a common year.
+#[tactic(auto, unfolding(crate::specs::Moving::in_year))]
 fn in_year(year: u16, d: Date) -> Date
     ensures { result ≡ moving.in_year year d }
 {
@@ -26,6 +27,7 @@ fn in_year(year: u16, d: Date) -> Date
 }
 
 // Whether a day stands before the birth moved on by so many years.
+#[tactic(auto, using(crate::proofs::Moved::before_in))]
 pub fn before_birthday(on: Date, birth: Date, years: u16) -> bool
     ensures { result ≡ dates.before on (moving.moved_on years birth) }
 {
