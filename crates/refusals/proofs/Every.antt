@@ -1,9 +1,6 @@
 -- What holds of every refusal, by one test that runs over the variants as the enum declares them.
 -- Assumes nothing.
-use mathlib.Core.Bool.{Bool, true, false, cond, true≢false}
-use mathlib.Core.List.{List, [], ◌∷◌}
-use mathlib.Core.Logic.{inl, inr}
-use mathlib.Core.Path.{◌≡◌, refl, sym, ap, ◌∙◌}
+use Rattle.std.proofs.Common.{Bool, true, false, cond, true≢false, List, [], ◌∷◌, inl, inr, ◌≡◌, refl, sym, ap, ◌∙◌}
 use denote.Enum.Declared.{Choice}
 use denote.Struct.Field.{Field}
 use Rattle.refusals.specs.declared.Refusal.{Refusal}

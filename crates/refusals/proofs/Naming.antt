@@ -1,15 +1,9 @@
 -- Names with spaces after them; how long names and numbers are, by one test over all refusals.
 -- Assumes nothing.
-use Prim.Native.Nat.{ℕ, ◌-◌, ◌≤◌, ◌<◌}
-use mathlib.Core.Bool.{false, not}
-use mathlib.Core.List.{List}
-use mathlib.Core.Path.{◌≡◌, refl}
-use native.Mathlib.Nat.{sub-zero}
-use native.Mathlib.Omega.{arith}
-use lib.Dec.{eqb, leb, ltb}
-use lib.ListN.{length, take, drop, length-append}
-use lib.Seq.{take-append_seam}
-use borrow.Author.Tests.{leb-true, ltb-true, not-true}
+use Rattle.std.proofs.Common.{ℕ, ◌-◌, ◌≤◌, ◌<◌, false, not, List, ◌≡◌, refl, arith, eqb, leb, ltb, length, take, drop, length-append, leb-true, ltb-true}
+use Rattle.std.proofs.Math.Nat.{sub-zero}
+use Rattle.std.proofs.Math.Seq.{take-append_seam}
+use borrow.Author.Tests.{not-true}
 use Rattle.refusals.specs.Refusals.{number_of, name_of, in_sixteen, Labelled}
 use Rattle.refusals.specs.declared.Refusal.{Refusal}
 use Rattle.refusals.proofs.Every.{each}

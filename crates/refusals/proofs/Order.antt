@@ -1,11 +1,6 @@
 -- The laws of tests in their order, over any list of them.
 -- Assumes nothing.
-use Prim.Native.Nat.{ℕ}
-use mathlib.Core.Bool.{Bool, true, false, cond, ◌&&◌, ◌||◌, true≢false}
-use mathlib.Core.List.{List, [], ◌∷◌, ◌++◌}
-use mathlib.Core.Path.{◌≡◌, refl, sym, ap, ◌∙◌}
-use native.Mathlib.Omega.{arith}
-use lib.Dec.{eqb}
+use Rattle.std.proofs.Common.{ℕ, Bool, true, false, cond, ◌&&◌, ◌||◌, true≢false, List, [], ◌∷◌, ◌++◌, ◌≡◌, refl, sym, ap, ◌∙◌, arith, eqb}
 use Rattle.refusals.specs.Refusals.{number_of}
 use Rattle.refusals.specs.Tests.{Test, first, NoneOf, or_else, verdict_number}
 use Rattle.refusals.specs.declared.Refusal.{Refusal}

@@ -1,11 +1,13 @@
 // The refusals, their numbers and names, and the first of some tests that applies.
+#![tactic(auto)]
+
 mod names;
 mod tests;
 
 pub use names::{put_name, refusal_number};
 pub use tests::{or_else, refuse_if};
 
-#[derive(Drop)]
+#[derive(Clone, Copy)]
 pub enum Refusal {
     Length,
     Check,
@@ -27,7 +29,7 @@ pub enum Refusal {
 }
 
 // What tests in their order find: the first refusal that applies, or that none does.
-#[derive(Drop)]
+#[derive(Clone, Copy)]
 pub enum Verdict {
     Passed,
     Refused(Refusal),

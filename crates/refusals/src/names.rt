@@ -78,8 +78,8 @@ pub fn refusal_number(r: Refusal) -> u32
 
 // Writes a refusal's name from index at on, as put writes a text.
 pub fn put_name(out: &mut [u8], at: usize, r: Refusal) -> usize
-    ensures out_after { out.new ≡ put_at out.old at (name_of r) }
-    ensures value { result ≡ put_end out.old at (name_of r) }
+    ensures bytes { out.new ≡ put_at out.old at (name_of r) }
+    ensures stop { result ≡ put_end out.old at (name_of r) }
 {
     let label = label_of(r);
     let bytes = label.1;
