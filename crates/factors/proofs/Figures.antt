@@ -1,9 +1,7 @@
 -- The rows that 01 and the examples of 001 print, with the first and last row of each table by age, and the keys on either side of
 -- each table.
 -- Assumes nothing.
-use Prim.Native.Nat.{ℕ}
-use mathlib.Core.List.{List, [], ◌∷◌, map}
-use mathlib.Core.Path.{◌≡◌, refl}
+use Rattle.std.proofs.Common.{ℕ, List, [], ◌∷◌, map, ◌≡◌, refl}
 use Rattle.factors.specs.Rows.{row_numbers}
 use Rattle.factors.specs.Tables.{section1995_table, section2008_table, scheme2015_table, row_at, row_in}
 use Rattle.factors.specs.declared.Table.{Table}

@@ -1,13 +1,8 @@
 -- The tables' counts and ranges: one test that antt computes over a whole table, and what follows of every row found.
 -- Assumes nothing.
-use Prim.Native.Nat.{ℕ, ◌-◌, ◌≤◌, ◌<◌}
-use native.Mathlib.Omega.{arith}
-use mathlib.Core.Bool.{Bool, true, false, cond, ◌&&◌, and-eq-true_iff}
-use mathlib.Core.List.{List, []}
-use mathlib.Core.Path.{◌≡◌, refl, ap}
-use lib.Dec.{eqb, leb, ltb}
-use lib.ListN.{length, get_or}
-use borrow.Author.Tests.{leb-true, lt-ltb, le-leb, lt-leb, le-ltb}
+use Rattle.std.proofs.Common.{ℕ, ◌-◌, ◌≤◌, ◌<◌, arith, Bool, true, false, cond, ◌&&◌, List, [], ◌≡◌, refl, ap, eqb, leb, ltb, length, get_or, leb-true, lt-ltb, le-leb, le-ltb}
+use Rattle.std.proofs.Math.Bool.{and-eq-true_iff}
+use borrow.Author.Tests.{lt-leb}
 use Rattle.numbers.specs.Lists.{every}
 use Rattle.numbers.proofs.Lists.{every_at}
 use Rattle.factors.specs.declared.Factors.{Factors}

@@ -1,10 +1,12 @@
 // The factor tables of the guidance notes, in hundredths, and looking up a row of them.
+#![tactic(auto)]
+
 ghost use Rattle.std.specs.Prelude.{◌≡◌};
 ghost use Rattle.factors.specs.Rows.{four_columns, two_columns, row_numbers};
 ghost use Rattle.factors.specs.Tables.{section1995_table, section2008_table, scheme2015_table, row_at, row_in};
 
 // The factors of a line, in hundredths; zero where a kind has none.
-#[derive(Drop)]
+#[derive(Clone, Copy)]
 pub struct Factors {
     pub pension: u64,
     pub lump: u64,
@@ -12,14 +14,14 @@ pub struct Factors {
     pub deduction: u64,
 }
 
-#[derive(Drop)]
+#[derive(Clone, Copy)]
 pub enum Row {
     Found(Factors),
     Absent,
 }
 
 // The notes' tables. A kind that is not listed has none.
-#[derive(Drop)]
+#[derive(Clone, Copy)]
 pub enum Table {
     Section1995,
     Section2008,
@@ -202,6 +204,7 @@ fn two_columns(row: [u16; 2]) -> Factors
 }
 
 // What a key finds in a table of four columns whose first row is for the key `first`.
+#[tactic(auto, unfolding(crate::specs::Tables::row_at))]
 fn row_of_four(table: &[[u16; 4]], first: u32, key: u32) -> Row
     ensures { result ≡ row_at four_columns first table.now key }
 {
@@ -215,6 +218,7 @@ fn row_of_four(table: &[[u16; 4]], first: u32, key: u32) -> Row
 }
 
 // The same in a table of two columns. With four, half of them zero, there would be twice as much to copy.
+#[tactic(auto, unfolding(crate::specs::Tables::row_at))]
 fn row_of_two(table: &[[u16; 2]], first: u32, key: u32) -> Row
     ensures { result ≡ row_at two_columns first table.now key }
 {
@@ -228,18 +232,21 @@ fn row_of_two(table: &[[u16; 2]], first: u32, key: u32) -> Row
 }
 
 // Each use of a table's name writes the table out, in the code and in its proof: one function to a table.
+#[tactic(auto, unfolding(crate::specs::Tables::section1995_table))]
 fn section_1995_row(age: u16) -> Row
     ensures { result ≡ row_at four_columns 22 section1995_table age }
 {
     row_of_four(&SECTION_1995, 22, age as u32)
 }
 
+#[tactic(auto, unfolding(crate::specs::Tables::section2008_table))]
 fn section_2008_row(age: u16) -> Row
     ensures { result ≡ row_at four_columns 18 section2008_table age }
 {
     row_of_four(&SECTION_2008, 18, age as u32)
 }
 
+#[tactic(auto, unfolding(crate::specs::Tables::scheme2015_table))]
 fn scheme_2015_row(ahead: u32) -> Row
     ensures { result ≡ row_at two_columns 1 scheme2015_table ahead }
 {
@@ -247,6 +254,7 @@ fn scheme_2015_row(ahead: u32) -> Row
 }
 
 // The row of a table, for an age or for years ahead, whichever the table goes by.
+#[tactic(auto, unfolding(crate::specs::Tables::row_in))]
 pub fn row_in(table: Table, age: u16, ahead: u32) -> Row
     ensures row { result ≡ row_in table age ahead }
     ensures numbers { row_numbers result ≡ row_numbers (row_in table age ahead) }
