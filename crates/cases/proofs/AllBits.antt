@@ -1,18 +1,15 @@
 -- The bits of some numbers taken together, from the last number to the first; and where they make no number above the limit, none of
 -- the numbers is above it.
 -- Assumes nothing.
-use Prim.Native.Nat.{ℕ, suc, ◌-◌, ◌≤◌, ◌<◌}
-use mathlib.Core.Bool.{false}
-use mathlib.Core.List.{List, [], ◌∷◌}
-use mathlib.Core.Path.{◌≡◌, refl, sym, ap, ◌∙◌}
-use native.Mathlib.Omega.{arith}
-use lib.Bits.{bit_or, or_add_and, and_le_l, and_le_r}
-use lib.ListN.{length, drop, get_or}
-use lib.Seq.{drop-cons, drop-length}
-use borrow.Author.Tests.{le-ltb}
+use Rattle.std.proofs.Common.{ℕ, suc, ◌-◌, ◌≤◌, ◌<◌, false, List, [], ◌∷◌, map, ◌≡◌, refl, sym, ap, ◌∙◌, arith, bit_or, length, drop, get_or, drop-cons, le-ltb}
+use Rattle.std.proofs.Math.Seq.{drop-length}
+use lib.Bits.{or_add_and, and_le_l, and_le_r}
 use Rattle.numbers.specs.Lists.{any}
 use Rattle.cases.specs.Bits.{all_bits}
+use Rattle.cases.specs.Layout.{amounts}
+use Rattle.cases.specs.Entries.{amount_in}
 use Rattle.cases.specs.Form.{too_large}
+use Rattle.cases.specs.declared.Line.{Line}
 
 pub bits_past : (xs : List ℕ) → 0 ≡ all_bits (drop (length xs) xs)
 bits_past xs = rw (drop-length xs)
@@ -28,3 +25,7 @@ none_too_large (x ∷ xs) h =
     let rest : ℕ = all_bits xs in
     rw (le-ltb 1000000000 x (omega (arith, or_add_and x rest, and_le_r x rest)))
     (none_too_large xs (omega (arith, or_add_and x rest, and_le_l x rest)))
+
+-- the same of the amounts of a line, whose bits are taken together to n
+pub low_bits : (l : Line) (n : ℕ) (xs : List ℕ) → xs ≡ map (λ a. amount_in a l) amounts → n ≡ all_bits xs → n ≤ 1000000000 → any (λ a. too_large (amount_in a l)) amounts ≡ false
+low_bits l n xs e f h = none_too_large (map (λ a. amount_in a l) amounts) (rw (f, e) at h)

@@ -1,10 +1,7 @@
 -- Codes are numbered from 1: which are listed, where n is the last.
 -- Assumes nothing.
-use Prim.Native.Nat.{ℕ, ◌≤◌, ◌<◌}
-use mathlib.Core.Bool.{true, false, ◌&&◌}
-use mathlib.Core.Path.{◌≡◌}
-use lib.Dec.{leb}
-use borrow.Author.Tests.{le-leb, lt-leb}
+use Rattle.std.proofs.Common.{ℕ, ◌≤◌, ◌<◌, true, false, ◌&&◌, ◌≡◌, leb, le-leb}
+use borrow.Author.Tests.{lt-leb}
 
 module _ (n x : ℕ) where
   pub code_listed : 1 ≤ x → x ≤ n → true ≡ (leb 1 x && leb x n)

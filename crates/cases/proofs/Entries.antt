@@ -1,8 +1,8 @@
 -- Lines are the same where their date and their amounts are: `line_with` makes a line of what `amount_in` reads off it. No field
 -- before the lines and no amount is missing from its list.
 -- Assumes nothing.
-use mathlib.Core.Bool.{true}
-use mathlib.Core.Path.{◌≡◌, refl, ap₂, fun_ext}
+use Rattle.std.proofs.Common.{true, ◌≡◌, refl, ap₂}
+use Rattle.std.proofs.Math.Path.{fun_ext}
 use Rattle.numbers.proofs.Lists.{listed}
 use Rattle.cases.specs.Layout as layout
 use Rattle.cases.specs.Layout.{Head, head_discrete, Amount, amount_discrete, heads, amounts}

@@ -1,11 +1,7 @@
 -- The rows of the kinds: what one test that antt computes over all of them gives of any kind.
 -- Assumes nothing.
-use Prim.Native.Nat.{ℕ, zero, suc, ◌≤◌, ◌<◌}
-use mathlib.Core.Path.{◌≡◌, refl, sym}
-use native.Mathlib.Omega.{arith}
-use lib.Dec.{leb}
-use lib.ListN.{length, get_or-eq_default}
-use borrow.Author.Tests.{leb-true}
+use Rattle.std.proofs.Common.{ℕ, zero, suc, ◌≤◌, ◌<◌, ◌≡◌, refl, sym, arith, leb, length, leb-true}
+use Rattle.std.proofs.Math.ListN.{get_or-eq_default}
 use Rattle.numbers.proofs.Lists.{every_at}
 use Rattle.cases.specs.Kinds.{no_kind, kinds, rules_of}
 

@@ -1,8 +1,6 @@
 -- Where refusal 4 does not apply, a kind without transfers has no transfer flag.
 -- Assumes nothing.
-use mathlib.Core.Bool.{false, not, ◌&&◌, ◌||◌}
-use mathlib.Core.List.{[], ◌∷◌}
-use mathlib.Core.Path.{◌≡◌, refl}
+use Rattle.std.proofs.Common.{false, not, ◌&&◌, ◌||◌, [], ◌∷◌, ◌≡◌, refl}
 use Rattle.numbers.proofs.Tests.{and_right_false, or_false, none_holds}
 use Rattle.calendar.specs.Dates.{is_zero}
 use Rattle.cases.specs.Entries.{any_line}

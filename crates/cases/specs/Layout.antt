@@ -79,8 +79,8 @@ place (amount i a) = amount_at i a wide 8
 abbrev pub check : Field
 check = 508 wide 4
 
--- the fields before the lines, and the amounts of a line, in block order; that none is left out is the laws head-listed and
--- amount-listed
+-- the fields before the lines, and the amounts of a line, in block order; that none is left out is the laws head_listed and
+-- amount_listed
 abbrev pub heads : List Head
 heads =
     kind ∷ number ∷ status ∷ receiver ∷ flags ∷ count ∷ service ∷ sex ∷
@@ -111,7 +111,7 @@ abbrev pub layout : List Field
 layout = map place entries ++ (check ∷ [])
 
 -- each field starts no earlier than the one before it ends, the first no earlier than from, and the last ends within size; that this
--- is so of the layout is the law in-order of `blocks`
+-- is so of the layout is the law in_order of `blocks`
 abbrev pub ordered : ℕ → ℕ → List Field → Bool
 ordered from size [] = leb from size
 ordered from size (f ∷ fs) = leb from f.offset && ordered (f.offset + f.width) size fs

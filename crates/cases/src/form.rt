@@ -11,6 +11,7 @@ use crate::{Case, Faults, Rules};
 use refusals::{Refusal, Verdict, refuse_if};
 
 // Whether the kind is not listed, or does not allow the count of lines.
+#[tactic(auto, unfolding(crate::specs::Form::kind_fault))]
 fn kind_fault(c: Case, rules: Rules) -> bool
     requires { rules ≡ rules_of c.kind }
     ensures { result ≡ form.kind_fault c.kind c.count }
@@ -46,6 +47,7 @@ fn sex_listed(x: u8) -> bool
 }
 
 // Whether a field before the lines that must be zero is not.
+#[tactic(auto, unfolding(crate::specs::Form::head_reserved_fault))]
 fn head_reserved_fault(c: Case, rules: Rules) -> bool
     requires { rules ≡ rules_of c.kind }
     ensures { result ≡ form.head_reserved_fault c }
@@ -58,6 +60,7 @@ fn head_reserved_fault(c: Case, rules: Rules) -> bool
         | (!rules.sex & (c.sex != 0))
 }
 
+#[tactic(auto, unfolding(crate::specs::Form::dates_range_fault))]
 fn dates_range_fault(c: Case) -> bool
     ensures { result ≡ form.dates_range_fault c }
 {
@@ -68,6 +71,7 @@ fn dates_range_fault(c: Case) -> bool
 }
 
 // Whether a field before the lines is out of its range.
+#[tactic(auto, unfolding(crate::specs::Form::head_range_fault))]
 fn head_range_fault(c: Case, rules: Rules) -> bool
     requires { rules ≡ rules_of c.kind }
     ensures { result ≡ form.head_range_fault c }
@@ -105,6 +109,7 @@ pub fn form_verdict_by(c: Case, unnamed: bool, lines: Faults) -> Verdict
 
 // Refusals 3, 4 and 5 of a case, read or built by hand, beside which a byte of its block that no field names may be other than zero:
 // the first that applies, or that none does.
+#[tactic(auto, unfolding(crate::specs::Form::reserved_fault, crate::specs::Form::range_fault))]
 pub fn form_verdict(c: Case, unnamed: bool) -> Verdict
     ensures verdict { result ≡ first (form.form_tests unnamed c) }
     ensures number { verdict_number result ≡ verdict_number (first (form.form_tests unnamed c)) }

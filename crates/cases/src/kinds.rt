@@ -5,6 +5,7 @@ ghost use Rattle.cases.specs.Kinds.{rules_of};
 use crate::Rules;
 use factors::Table;
 
+#[tactic(auto, using(crate::proofs::RowsOfKinds::no_row), unfolding(crate::specs::Kinds::rules_of))]
 pub fn rules_of(kind: u16) -> Rules
     ensures { result ≡ rules_of kind }
 {

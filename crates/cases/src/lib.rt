@@ -1,4 +1,6 @@
 // The case of a member who leaves: its entries, the rules of its kind, and refusals 3 to 5.
+#![tactic(auto)]
+
 mod bits;
 mod flags;
 mod form;
@@ -14,7 +16,7 @@ pub use lines::faults_of_line;
 
 // One line of benefits: its pension date and its amounts in pence. The two amounts of Scheme Pays are debits, on the pension and on
 // the lump sum; the last three are a divorce debit, as at leaving.
-#[derive(Drop)]
+#[derive(Clone, Copy)]
 pub struct Line {
     pub date: Date,
     pub pension: u64,
@@ -31,7 +33,7 @@ pub struct Line {
 }
 
 // The fields of a block but its check.
-#[derive(Drop)]
+#[derive(Clone, Copy)]
 pub struct Case {
     pub kind: u16,
     pub number: u32,
@@ -53,7 +55,7 @@ pub struct Case {
 }
 
 // What sets a kind of case apart.
-#[derive(Drop)]
+#[derive(Clone, Copy)]
 pub struct Rules {
     // The most lines that a case may have; it has at least one.
     pub lines: u8,
@@ -75,7 +77,7 @@ pub struct Rules {
 }
 
 // Whether lines break a must-be-zero rule, and whether they break a range.
-#[derive(Drop)]
+#[derive(Clone, Copy)]
 pub struct Faults {
     pub reserved: bool,
     pub range: bool,

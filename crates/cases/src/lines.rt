@@ -12,7 +12,7 @@ use crate::kinds::rules_of;
 use crate::{Case, Faults, Line, Rules};
 
 // Whether one of some amounts is not zero, and whether one is above the limit.
-#[derive(Drop)]
+#[derive(Clone, Copy)]
 struct AmountTests {
     pub filled: bool,
     pub too_large: bool,
@@ -68,6 +68,7 @@ fn lump_allowed(rules: Rules, flags: u8) -> bool
 }
 
 // Whether something that must be zero in line i by its kind, flags and place is not.
+#[tactic(auto, unfolding(crate::specs::Form::reserved_filled))]
 fn reserved_filled(rules: Rules, flags: u8, i: u8, l: Line) -> bool
     ensures { result ≡ reserved_filled rules flags i l }
 {
@@ -78,6 +79,7 @@ fn reserved_filled(rules: Rules, flags: u8, i: u8, l: Line) -> bool
         | ((1 <= i) & ((l.additional != 0) | (l.dependant != 0)))
 }
 
+#[tactic(auto, using(crate::proofs::AllBits::low_bits))]
 fn some_too_large(l: Line) -> bool
     ensures { result ≡ any (λ a. too_large (amount_in a l)) amounts }
 {
@@ -99,6 +101,7 @@ fn line_filled(l: Line) -> bool
 
 // What line i of a case with `count` lines breaks. Past the count nearly every line is zeros and breaks nothing, so it is not tested
 // further.
+#[tactic(auto, using(crate::proofs::PastCount::range_within, crate::proofs::PastCount::range_past), unfolding(crate::specs::Form::line_reserved_fault))]
 pub fn faults_of_line(rules: Rules, flags: u8, count: u8, i: u8, l: Line) -> Faults
     ensures { (result.reserved ≡ line_reserved_fault rules flags count i l) × (result.range ≡ line_range_fault rules count i l) }
 {
