@@ -1,8 +1,8 @@
 -- The laws of the blocks of a file.
 -- Assumes nothing.
 use Rattle.std.proofs.Common.{◌≡◌, ℕ, zero, suc, ◌+◌, ◌-◌, ◌*◌, ◌<◌, ◌≤◌, min, ◌⊎◌, List, [], ◌∷◌, ◌++◌, length, take, drop, sym, refl, ap, ◌∙◌, inl, inr, ⊎_elim, zero-add, add-one, arith, length-drop, take_all, drop-drop}
-use native.Mathlib.Decide.{dec_le}
-use lib.Seq.{take-append-le, drop-append-le}
+use Rattle.std.proofs.Math.Decide.{dec_le}
+use Rattle.std.proofs.Math.Seq.{take-append-le, drop-append-le}
 use Rattle.blocks.specs.Files.{blocks}
 
 pub split : (n m : ℕ) → (n ≤ m) ⊎ (m < n)

@@ -1,7 +1,7 @@
 -- Amounts that stand one after the other, read from the last to the first.
 -- Assumes nothing.
 use Rattle.std.proofs.Common.{◌≡◌, ℕ, suc, ◌+◌, ◌-◌, ◌*◌, ◌<◌, ◌≤◌, List, map, length, drop, set, ◌∙◌, add_assoc, arith, length-set, drop-cons, get_or-set_same, drop-set-lt}
-use lib.Seq.{drop-length}
+use Rattle.std.proofs.Math.Seq.{drop-length}
 use Rattle.buffers.specs.Bytes.{number_at}
 use Rattle.cases.specs.Layout.{amount, amounts_of_line, amounts_of_divorce_debit, line_at, divorce_debit_at, place}
 use Rattle.blocks.specs.Block.{field_of, amounts_from}

@@ -1,7 +1,7 @@
 -- The block's layout is in order and stays within the block; the bytes that no field names.
 -- Assumes nothing.
 use Rattle.std.proofs.Common.{◌≡◌, ℕ, true, false, cond, eqb, List, [], ◌∷◌, map, sym, refl}
-use mathlib.Core.Bool.{or_assoc, or_false}
+use Rattle.std.proofs.Math.Bool.{or_assoc, or-false}
 use Rattle.numbers.proofs.Tests.{or_from}
 use Rattle.numbers.proofs.Below.{any_none}
 use Rattle.cases.specs.Layout.{Field, ◌wide◌, layout, ordered, gaps}
@@ -22,4 +22,4 @@ with_bytes (f ∷ fs) = cond (eqb f.width 0) (with_bytes fs) (f ∷ with_bytes f
 -- the bytes that no field names are those of the gaps that have any, as the layout gives them, one test after the other
 pub unnamed : (s : List ℕ) → or_from false (map (nonzero s) (with_bytes (gaps 0 512 layout))) ≡ unnamed_fault s
 unfolding unnamed_fault
-unnamed s = simp (none_between, or_assoc, or_false)
+unnamed s = simp (none_between, or_assoc, or-false)

@@ -1,7 +1,7 @@
 -- A line whose bytes, with those of its divorce debit, are all zero is a line of zeros.
 -- Assumes nothing.
 use Rattle.std.proofs.Common.{◌≡◌, ℕ, suc, ◌+◌, ◌-◌, ◌≤◌, false, not, ◌||◌, eqb, List, length, get_or, refl, ap, ◌∙◌, ap₂, arith, eqb-true}
-use mathlib.Core.Path.{fun_ext}
+use Rattle.std.proofs.Math.Path.{fun_ext}
 use borrow.Author.Tests.{not-false}
 use Rattle.numbers.proofs.Below.{any_false}
 use Rattle.numbers.proofs.Tests.{or_false}

@@ -1,4 +1,6 @@
 // A case's block of 512 bytes: its checksum, and reading it.
+#![tactic(auto)]
+
 mod check;
 mod fields;
 mod gaps;
@@ -10,7 +12,7 @@ pub use read::read_block;
 use refusals::Verdict;
 
 // What reading a block gives: the case where no refusal applies, and beside a refusal a case of zeros.
-#[derive(Drop)]
+#[derive(Clone, Copy)]
 pub struct Reading {
     pub verdict: Verdict,
     pub case: Case,
