@@ -1,12 +1,7 @@
 -- A divorce debit: where refusal 16 does not apply, the gross value and the debit value make up the first value; and a case without a
 -- divorce debit is not refused with 16, and its gross value is the first value.
 -- Assumes nothing.
-use Prim.Native.Nat.{ℕ, ◌+◌}
-use mathlib.Core.Bool.{false}
-use mathlib.Core.Path.{◌≡◌, refl}
-use native.Mathlib.Nat.{zero-mul}
-use native.Mathlib.Omega.{arith}
-use borrow.Author.Tests.{ltb-false, le-ltb}
+use Rattle.std.proofs.Common.{ℕ, ◌+◌, false, ◌≡◌, refl, zero-mul, arith, ltb-false, le-ltb}
 use Rattle.numbers.specs.Below.{sum_below}
 use Rattle.numbers.specs.Rounding.{nearest}
 use Rattle.cases.specs.Entries.{line}

@@ -1,12 +1,7 @@
 -- How far the gross value lies from the exact one, under any factors. Each rounding moves a number by half a unit at most: an amount
 -- by half a penny, which its factor multiplies, and the first value and the debit value by half a penny each.
 -- Assumes nothing.
-use Prim.Native.Nat.{ℕ, ◌+◌, ◌-◌, ◌*◌, ◌<◌}
-use mathlib.Core.Bool.{false, cond}
-use mathlib.Core.Path.{◌≡◌, refl}
-use native.Mathlib.Nat.{add-mul, mul_right_comm, zero-mul}
-use native.Mathlib.Omega.{arith}
-use lib.Dec.{lit<, leb}
+use Rattle.std.proofs.Common.{ℕ, ◌+◌, ◌-◌, ◌*◌, ◌<◌, false, cond, ◌≡◌, refl, add-mul, mul_right_comm, zero-mul, arith, lit<, leb}
 use Rattle.numbers.specs.Rounding.{nearest, Within}
 use Rattle.numbers.specs.Below.{sum_below}
 use Rattle.numbers.proofs.Rounding.{nearest_half}
@@ -16,7 +11,7 @@ use Rattle.cases.specs.Entries.{line}
 use Rattle.cases.specs.declared.Case.{Case}
 use Rattle.factors.specs.Rows.{no_factors}
 use Rattle.factors.specs.declared.Factors.{Factors}
-use Rattle.sums.specs.Sum.{Benefit, member_pension, lump_sum, survivor_pension, entered, revalued, scheme_pays_on, reduced, debited, revalued_debit, factor, over_lines, over_benefits, valued_on, deduction, credit, negative_fault, first_value, debit_value, award_fault, gross_by, scheme_pays_fault}
+use Rattle.sums.specs.Sum.{Benefit, member_pension, lump_sum, survivor_pension, entered, revalued, debited, revalued_debit, factor, over_lines, over_benefits, valued_on, deduction, credit, negative_fault, first_value, debit_value, award_fault, gross_by, scheme_pays_fault}
 use Rattle.sums.specs.Exact.{exact_added, exact_scheme_pays, exact_deduction, exact_debit, WithinOfExact, factor_sum, exact_bound, NearExact}
 use Rattle.sums.proofs.Covered.{covered, not_negative}
 use Rattle.sums.proofs.Divorce.{gross_and_debit, no_value, no_debits, without_divorce}

@@ -1,12 +1,7 @@
 -- How far apart the gross values of two cases lie that are alike but for one benefit of one line.
 -- Assumes nothing.
-use Prim.Native.Nat.{ℕ, ◌+◌, ◌-◌, ◌*◌, ◌≤◌, ◌<◌}
-use mathlib.Core.Bool.{false}
-use mathlib.Core.Path.{◌≡◌, refl, sym, ap, ◌∙◌}
-use native.Mathlib.Nat.{add-mul, zero-mul, add-zero, mul_right_comm}
-use native.Mathlib.Decide.{ℕ_discrete}
-use native.Mathlib.Omega.{arith}
-use lib.Dec.{lit<}
+use Rattle.std.proofs.Common.{ℕ, ◌+◌, ◌-◌, ◌*◌, ◌≤◌, ◌<◌, false, ◌≡◌, refl, sym, ap, ◌∙◌, add-mul, zero-mul, add-zero, mul_right_comm, arith, lit<}
+use Rattle.std.proofs.Math.Decide.{ℕ_discrete}
 use Rattle.numbers.specs.Rounding.{nearest, Within}
 use Rattle.numbers.proofs.Rounding.{nearest_near}
 use Rattle.numbers.proofs.Within.{within_mul}

@@ -1,11 +1,6 @@
 -- The order of gross values and payments: where no line of a case is worse than another case's, nor is what it is worth.
 -- Assumes nothing.
-use Prim.Native.Nat.{ℕ, ◌≤◌}
-use mathlib.Core.Bool.{false}
-use mathlib.Core.Path.{◌≡◌}
-use native.Mathlib.Nat.{mul-le-mul_right}
-use native.Mathlib.Omega.{arith}
-use lib.Dec.{lit<}
+use Rattle.std.proofs.Common.{ℕ, ◌≤◌, false, ◌≡◌, mul-le-mul_right, arith, lit<}
 use Rattle.numbers.proofs.Rounding.{nearest_mono}
 use Rattle.numbers.proofs.Below.{sum_mono}
 use Rattle.cases.specs.Entries.{line}

@@ -1,9 +1,6 @@
 -- What is paid where there is no underpin.
 -- Assumes nothing.
-use Prim.Native.Nat.{ℕ, ◌+◌}
-use mathlib.Core.Bool.{false}
-use mathlib.Core.Path.{◌≡◌}
-use native.Mathlib.Omega.{arith}
+use Rattle.std.proofs.Common.{ℕ, ◌+◌, false, ◌≡◌, arith}
 use Rattle.cases.specs.Flags.{transfer_flag}
 use Rattle.cases.specs.declared.Case.{Case}
 use Rattle.sums.specs.Payment.{underpin, payment}

@@ -7,7 +7,7 @@ use Rattle.numbers.specs.Rounding.{Within}
 use Rattle.cases.specs.Entries.{line}
 use Rattle.cases.specs.declared.Case.{Case}
 use Rattle.factors.specs.declared.Factors.{Factors}
-use Rattle.sums.specs.Sum.{Benefit, entered, scheme_pays_on, debited, factor, over_lines, over_benefits, valued_on, deduction}
+use Rattle.sums.specs.Sum.{entered, scheme_pays_on, debited, factor, over_lines, over_benefits, valued_on, deduction}
 
 -- The exact value is what is added less what is taken off. The two are kept apart, since it may lie below zero where the total of
 -- rounded amounts does not

@@ -9,6 +9,6 @@ unfoldable pub underpin : Case → ℕ
 underpin c = cond (transfer_flag c.flags) (c.transfer + c.contributions) 0
 
 -- 5: the gross value, or the underpin where that is larger. Kinds 1 and 3 may not have the transfer flag, so their underpin is 0 and
--- they pay the gross value itself (the laws section-1995-paid and section-2008-paid). 6: then the AVC comes on top (a house rule)
+-- they pay the gross value itself (the laws section_1995_paid and section_2008_paid). 6: then the AVC comes on top (a house rule)
 unfoldable pub payment : Case → ℕ → ℕ
 payment c g = max g (underpin c) + c.avc
