@@ -7,6 +7,7 @@ use calendar::{Date, before};
 use cases::{Case, gmp_flag, rules_of};
 
 // Whether a line after the first is not dated before the first.
+#[tactic(auto, unfolding(numbers::specs::Below::any_below, cases::specs::Entries::line_by))]
 fn misplaced_fault(c: Case) -> bool
     ensures { result ≡ any_line (entitlement.misplaced c) c }
 {
@@ -20,6 +21,7 @@ fn misplaced_fault(c: Case) -> bool
 }
 
 // What refusal 6 asks of dated lines. The branch, here and in order_fault, spares every other case the work.
+#[tactic(auto, unfolding(cases::specs::Entries::line_by))]
 fn dated_lines_fault(c: Case) -> bool
     ensures { result ≡ entitlement.dated_lines_fault c }
 {
@@ -38,6 +40,7 @@ pub(crate) fn dates_fault(c: Case) -> bool
     !before(c.birth, c.leaving) | before(c.guarantee, c.leaving) | dated_lines_fault(c)
 }
 
+#[tactic(auto, unfolding(numbers::specs::Below::any_below, cases::specs::Entries::line_by))]
 pub(crate) fn order_fault(c: Case) -> bool
     ensures { result ≡ entitlement.order_fault c }
 {
@@ -64,6 +67,7 @@ pub(crate) fn refer_fault(c: Case) -> bool
 }
 
 // Whether a line is dated on or before the guarantee date.
+#[tactic(auto, unfolding(numbers::specs::Below::any_below, cases::specs::Entries::line_by))]
 fn reached_fault(c: Case) -> bool
     ensures { result ≡ any_line (entitlement.reached c) c }
 {
