@@ -1,8 +1,6 @@
 -- What acceptance gives: the payment, and what makes up the first value.
 -- Assumes nothing.
-use Prim.Native.Nat.{◌+◌}
-use mathlib.Core.Bool.{false}
-use mathlib.Core.Path.{◌≡◌, refl, ap, ◌∙◌}
+use Rattle.std.proofs.Common.{◌+◌, false, ◌≡◌, refl, ap, ◌∙◌}
 use Rattle.refusals.proofs.Order.{none_first, none_given}
 use Rattle.refusals.specs.declared.Refusal.TheVariants.{Reserved, Award}
 use Rattle.cases.specs.Kinds.{rules_of}

@@ -1,7 +1,6 @@
 -- The gross value of an accepted case lies near its exact value.
 -- Assumes nothing.
-use Prim.Native.Nat.{ℕ, ◌+◌, ◌*◌}
-use mathlib.Core.Path.{◌≡◌}
+use Rattle.std.proofs.Common.{ℕ, ◌+◌, ◌*◌, ◌≡◌}
 use Rattle.refusals.proofs.Order.{none_given}
 use Rattle.refusals.specs.declared.Refusal.TheVariants.{Debit, Negative, Award}
 use Rattle.cases.specs.Entries.{line}

@@ -1,14 +1,10 @@
 -- In an accepted case of the 2015 scheme every line is dated before all the lines above it. Refusal 6 compares each line with
 -- the first, and 17 each of the others with the one above it; the rest follows, since the order of dates is transitive.
 -- Assumes nothing.
-use Prim.Native.Nat.{ℕ, zero, suc, ◌-◌, ◌≤◌, ◌<◌}
-use mathlib.Core.Bool.{true, false, not, ◌&&◌, ◌||◌}
-use mathlib.Core.Path.{◌≡◌, refl}
-use native.Mathlib.Decide.{ℕ_discrete}
-use native.Mathlib.Numerals.{unary_clauses}
-use native.Mathlib.Omega.{arith}
-use lib.Dec.{leb, ltb}
-use borrow.Author.Tests.{ltb-true, lt-ltb, le-leb, not-false}
+use Rattle.std.proofs.Common.{ℕ, zero, suc, ◌-◌, ◌≤◌, ◌<◌, true, false, not, ◌&&◌, ◌||◌, ◌≡◌, refl, arith, leb, ltb, ltb-true, lt-ltb, le-leb}
+use Rattle.std.proofs.Math.Decide.{ℕ_discrete}
+use Rattle.std.proofs.Math.Numerals.{unary_clauses}
+use borrow.Author.Tests.{not-false}
 use Rattle.numbers.proofs.Below.{any_false}
 use Rattle.numbers.proofs.Tests.{and_right_false, or_false}
 use Rattle.calendar.specs.Dates.{rank, before}

@@ -1,7 +1,6 @@
 -- The figures at the edges and those of the exact value: every row, by computing the definitions.
 -- Assumes nothing.
-use mathlib.Core.List.{map}
-use mathlib.Core.Path.{◌≡◌, refl}
+use Rattle.std.proofs.Common.{map, ◌≡◌, refl}
 use Rattle.numbers.specs.Rounding.{nearest}
 use Rattle.numbers.specs.Below.{sum_below, any_below, how_many, fewest}
 use Rattle.calendar.specs.Dates.{days_in, is_real}

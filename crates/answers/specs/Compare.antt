@@ -33,7 +33,7 @@ role_on_line i layout.debit_pension = taken
 role_on_line i layout.debit_survivor = taken
 role_on_line i layout.debit_lump = taken
 
--- whether something is promised of an entry of this role; of each amount of a line it is (the law all-promised)
+-- whether something is promised of an entry of this role; of each amount of a line it is (the law all_promised)
 abbrev pub promised : Role → Bool
 promised (adds b i) = true
 promised taken = true

@@ -1,8 +1,10 @@
 // The answer to a case. The code that works it out is in `valuing`.
+#![tactic(auto)]
+
 use refusals::Refusal;
 
 // The payment and its items: payment, underpin and AVC in pence, the others in hundredths of a penny, over all lines.
-#[derive(Drop)]
+#[derive(Clone, Copy)]
 pub struct Items {
     pub payment: u64,
     pub pension: u64,
@@ -14,14 +16,14 @@ pub struct Items {
 }
 
 // What is paid for a case, item by item, or why nothing is.
-#[derive(Drop)]
+#[derive(Clone, Copy)]
 pub enum Outcome {
     Paid(Items),
     Refused(Refusal),
 }
 
 // An outcome beside the case number, which is 0 where the block could not be read.
-#[derive(Drop)]
+#[derive(Clone, Copy)]
 pub struct Answer {
     pub number: u32,
     pub outcome: Outcome,
