@@ -1,9 +1,6 @@
 -- What the code carries from line to line, one line further; and the totals over all lines.
 -- Assumes nothing.
-use Prim.Native.Nat.{ℕ, ◌+◌, ◌<◌}
-use mathlib.Core.Bool.{false}
-use mathlib.Core.Path.{◌≡◌, refl}
-use native.Mathlib.Omega.{arith}
+use Rattle.std.proofs.Common.{ℕ, ◌+◌, ◌<◌, false, ◌≡◌, refl, arith}
 use borrow.Author.Tests.{lt-leb}
 use Rattle.numbers.specs.Below.{sum_below}
 use Rattle.numbers.proofs.Below.{sum_more, any_none, any_more}

@@ -1,11 +1,7 @@
 -- The lines past the count, where refusals 3 and 4 do not apply, add nothing to the totals.
 -- Assumes nothing.
-use Prim.Native.Nat.{ℕ, zero, suc, ◌+◌, ◌-◌, ◌≤◌, ◌<◌}
-use mathlib.Core.Bool.{false, or_false}
-use mathlib.Core.Path.{◌≡◌}
-use native.Mathlib.Nat.{mul-zero, add-zero}
-use native.Mathlib.Omega.{arith}
-use borrow.Author.Tests.{le-leb, le-ltb}
+use Rattle.std.proofs.Common.{ℕ, zero, suc, ◌+◌, ◌-◌, ◌≤◌, ◌<◌, false, ◌≡◌, mul-zero, add-zero, arith, le-leb, le-ltb}
+use Rattle.std.proofs.Math.Bool.{or-false}
 use Rattle.numbers.proofs.Below.{sum_more, any_more}
 use Rattle.cases.specs.Entries.{line}
 use Rattle.cases.specs.Form.{form_tests, WellFormed}
@@ -43,8 +39,8 @@ module _ (c : Case) (well : WellFormed c) where
         survivor = rw (sum_more, b.survivor, q, mul-zero, add-zero);
         deduction = rw (sum_more, b.deduction, q, mul-zero, add-zero);
         debit = rw (debit member_pension, debit lump_sum, debit survivor_pension, b.debit, q) (simp (mul-zero, add-zero));
-        missing = rw (any_more, b.missing, q, or_false);
-        excess = rw (any_more, b.excess, no_scheme_pays i h p, or_false);
+        missing = rw (any_more, b.missing, q, or-false);
+        excess = rw (any_more, b.excess, no_scheme_pays i h p, or-false);
         bounded = omega (arith, b.bounded);
       }
 

@@ -1,10 +1,6 @@
 -- The totals of a case over its lines are those of the sum: refusal 14, the first value, the debit value and the items.
 -- Assumes nothing.
-use Prim.Native.Nat.{ℕ, ◌+◌, ◌-◌}
-use mathlib.Core.Bool.{Bool, true, false, cond}
-use mathlib.Core.Path.{◌≡◌, refl, ap}
-use native.Mathlib.Omega.{arith}
-use lib.Dec.{ltb}
+use Rattle.std.proofs.Common.{ℕ, ◌+◌, ◌-◌, Bool, true, false, cond, ◌≡◌, refl, ap, arith, ltb}
 use Rattle.numbers.specs.Rounding.{nearest}
 use Rattle.cases.specs.declared.Case.{Case}
 use Rattle.sums.specs.Rows.{factors_of}

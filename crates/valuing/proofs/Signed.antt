@@ -1,15 +1,8 @@
 -- The signed difference of two unsigned numbers, as a 64-bit signed local holds it.
-use mathlib.Core.Path.{◌≡◌, refl, sym, ap, ap₂, ◌∙◌}
-use mathlib.Core.Bool.{Bool, true, false, cond}
-use Prim.Native.Nat.{ℕ, zero, suc, ◌-◌, ◌<◌, ◌^◌}
-use native.Mathlib.Omega.{arith}
-use lib.Dec.{ltb, leb-suc-zero}
-use lib.IntN.{ℤ, pos, negsuc, ◌-ℤ◌, sub_ℕ}
+use Rattle.std.proofs.Common.{◌≡◌, refl, sym, ap, ap₂, ◌∙◌, Bool, true, false, cond, ℕ, zero, suc, ◌-◌, ◌<◌, ◌^◌, arith, ltb, ℤ, pos, negsuc, ◌-ℤ◌, w64, SFits, to_z, of_z, to_z-of_z, lt-ltb}
+use Rattle.std.proofs.Math.Dec.{leb-suc-zero}
+use Rattle.std.proofs.Math.IntN.{sub_ℕ}
 use lib.Signed.{mag, lt_z}
-use mir.Syntax.{w64}
-use mir.Val.{SFits, to_z, of_z}
-use mir.Facts.{to_z-of_z}
-use borrow.Author.Tests.{lt-ltb}
 
 pos_sub : (a b : ℕ) → pos a -ℤ pos b ≡ sub_ℕ a b
 pos_sub a zero = rw (leb-suc-zero a) (ap pos (omega arith))

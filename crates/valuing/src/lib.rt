@@ -1,4 +1,6 @@
 // Valuing a case: what is paid, or why it is refused.
+#![tactic(auto)]
+
 mod block;
 mod pay;
 mod sum;

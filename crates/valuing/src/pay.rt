@@ -3,7 +3,8 @@ ghost use Rattle.std.specs.Prelude.{◌≡◌, cond, false, ◌+◌, ◌≤◌, 
 ghost use Rattle.refusals.specs.declared.Refusal.TheVariants.{Negative, Award};
 ghost use Rattle.cases.specs.Form.{range_fault};
 ghost use Rattle.sums.specs.Rows.{factors_of};
-ghost use Rattle.sums.specs.Sum.{negative_fault, first_value, award_fault};
+ghost use Rattle.sums.specs.Sum.{negative_fault, award_fault};
+ghost use Rattle.sums.specs.Sum as of_case;
 ghost use Rattle.sums.specs.Payment as payment;
 ghost use Rattle.answers.specs.Answer.{items_of};
 ghost use Rattle.valuing.specs.Totals.{TotalsBelow};
@@ -47,7 +48,7 @@ fn pay(c: Case, gross: u64) -> u64
 
 // Takes the divorce debit off the first value: the payment with its items, or refusal 16.
 fn after_divorce(c: Case, t: Totals, first_value: u64) -> Outcome
-    requires { (range_fault c ≡ false) × TotalsBelow c 4 t × (first_value ≡ first_value (factors_of c) c) × (first_value < 2 ^ 62) }
+    requires { (range_fault c ≡ false) × TotalsBelow c 4 t × (first_value ≡ of_case.first_value (factors_of c) c) × (first_value < 2 ^ 62) }
     ensures { result ≡ cond (award_fault (factors_of c) c) (Outcome.Refused Award) (Outcome.Paid (items_of c)) }
 {
     let debit_value = numbers::nearest(t.debit, 100);
