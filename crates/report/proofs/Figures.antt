@@ -1,6 +1,6 @@
 -- The report of three blocks: a payment of kind 1, one of kind 2, and a block that is refused.
 -- Assumes nothing.
-use mathlib.Core.Path.{◌≡◌, refl}
+use Rattle.std.proofs.Common.{◌≡◌, refl}
 use Rattle.buffers.specs.Decimal.{last_digits, digits_within, decimal}
 use Rattle.buffers.specs.Text.{ascii}
 use Rattle.refusals.specs.declared.Refusal.TheVariants.{Kind}

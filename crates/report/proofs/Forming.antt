@@ -1,13 +1,6 @@
 -- Forming a line in a lent buffer, and in a part of one.
 -- Assumes nothing.
-use Prim.Native.Nat.{ℕ, ◌+◌, ◌-◌, ◌≤◌, ◌<◌}
-use mathlib.Core.Bool.{false}
-use mathlib.Core.List.{List, [], ◌∷◌, ◌++◌}
-use mathlib.Core.Path.{◌≡◌, refl, ap, ◌∙◌}
-use native.Mathlib.Omega.{arith}
-use lib.Dec.{ltb}
-use lib.ListN.{length, take, drop, length-append, length-take, length-drop}
-use borrow.Author.Tests.{lt-ltb, le-ltb}
+use Rattle.std.proofs.Common.{ℕ, ◌+◌, ◌-◌, ◌≤◌, ◌<◌, false, List, [], ◌∷◌, ◌++◌, ◌≡◌, refl, ap, ◌∙◌, arith, ltb, length, take, drop, length-append, length-take, length-drop, lt-ltb, le-ltb}
 use Rattle.buffers.specs.Text.{Written}
 use Rattle.buffers.proofs.Writing.{from_start, in_part}
 use Rattle.refusals.specs.declared.Refusal.TheVariants.{Buffer}

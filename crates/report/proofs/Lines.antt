@@ -1,12 +1,7 @@
 -- No line is longer than 256 bytes.
 -- Assumes nothing.
-use Prim.Native.Nat.{ℕ, ◌+◌, ◌*◌, ◌/◌, ◌^◌, ◌≤◌, ◌<◌}
-use mathlib.Core.List.{List, ◌++◌}
-use mathlib.Core.Path.{◌≡◌}
-use native.Mathlib.Nat.{div-lt_iff_lt-mul, one-le-pow}
-use native.Mathlib.Omega.{arith}
-use lib.Dec.{lit<, lit≤}
-use lib.ListN.{length, length-append}
+use Rattle.std.proofs.Common.{ℕ, ◌+◌, ◌*◌, ◌/◌, ◌^◌, ◌≤◌, ◌<◌, List, ◌++◌, ◌≡◌, div-lt_iff_lt-mul, arith, lit<, lit≤, length, length-append}
+use Rattle.std.proofs.Math.Nat.{one-le-pow}
 use Rattle.buffers.specs.Decimal.{decimal}
 use Rattle.buffers.specs.Text.{ascii, WrittenIfRoom}
 use Rattle.buffers.proofs.Decimal.{decimal_short, length_digits}

@@ -1,4 +1,6 @@
 // The lines of a report, each formed at the start of a buffer that the caller lends.
+#![tactic(auto)]
+
 mod line;
 mod parts;
 
@@ -6,7 +8,7 @@ pub use line::{form_end, form_header, form_line};
 use refusals::Refusal;
 
 // What forming a line answers: the line's length, or the refusal.
-#[derive(Drop)]
+#[derive(Clone, Copy)]
 pub enum Formed {
     Line(usize),
     Refused(Refusal),

@@ -1,0 +1,7 @@
+-- `put_item` meets its contract.
+use Rattle.buffers.proofs.Writing.{if_room, ◌then◌}
+use Rattle.report.proofs.parts.put_item.Goals as goal
+
+pub returns : goal.returns
+returns c =
+    if_room c.put-a.ensures.bytes c.put-a.ensures.stop then if_room c.put_fixed_point.ensures.bytes c.put_fixed_point.ensures.stop
