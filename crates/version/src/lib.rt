@@ -1,4 +1,6 @@
 // Which version this is, as a number for a C program and as the line that `values --version` prints.
+#![tactic(auto)]
+
 ghost use Rattle.std.specs.Prelude.{◌≡◌, ◌++◌, ◌≤◌, length, drop};
 ghost use Rattle.version.specs.Version.{version_number, version_line};
 
