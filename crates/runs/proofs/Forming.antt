@@ -1,11 +1,6 @@
 -- Lines formed in a buffer with room for them.
 -- Assumes nothing.
-use Prim.Native.Nat.{ℕ, ◌+◌, ◌≤◌}
-use mathlib.Core.List.{List, [], ◌++◌}
-use mathlib.Core.Path.{◌≡◌, sym, ◌∙◌}
-use native.Mathlib.Omega.{arith}
-use lib.ListN.{length, take, drop, length-take, length-drop}
-use borrow.Author.Tests.{le-ltb}
+use Rattle.std.proofs.Common.{ℕ, ◌+◌, ◌≤◌, List, [], ◌++◌, ◌≡◌, sym, ◌∙◌, arith, length, take, drop, length-take, length-drop, le-ltb}
 use Rattle.buffers.specs.Text.{Written}
 use Rattle.buffers.proofs.Writing.{put_empty}
 use Rattle.report.specs.Forming.{formed_as, buffer_with}

@@ -1,12 +1,7 @@
 -- What is left to read.
 -- Assumes nothing.
-use Prim.Native.Nat.{ℕ, ◌+◌, ◌-◌, ◌≤◌, ◌<◌}
-use mathlib.Core.List.{List}
-use mathlib.Core.Logic.{⊎_elim}
-use mathlib.Core.Path.{◌≡◌}
-use native.Mathlib.Omega.{arith}
-use lib.ListN.{length}
-use borrow.Author.Tests.{le-leb, lt-leb}
+use Rattle.std.proofs.Common.{ℕ, ◌+◌, ◌-◌, ◌≤◌, ◌<◌, List, ⊎_elim, ◌≡◌, arith, length, le-leb}
+use borrow.Author.Tests.{lt-leb}
 use Rattle.runs.specs.declared.Counts.{Counts}
 use Rattle.runs.specs.Run.{limit, left, counted}
 use Rattle.blocks.proofs.Files.{split}

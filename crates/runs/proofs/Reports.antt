@@ -1,11 +1,6 @@
 -- Chunk after chunk, a run reports what the whole case file is.
 -- Assumes nothing.
-use Prim.Native.Nat.{ℕ, ◌+◌, ◌-◌, ◌*◌, ◌%◌, ◌≤◌, min}
-use mathlib.Core.List.{List, [], ◌++◌, append-nil, append_assoc}
-use mathlib.Core.Logic.{⊎_elim, ◌⊎◌}
-use mathlib.Core.Path.{◌≡◌, refl, sym, ap, ◌∙◌}
-use native.Mathlib.Omega.{arith}
-use lib.ListN.{length, length-append}
+use Rattle.std.proofs.Common.{ℕ, ◌+◌, ◌-◌, ◌*◌, ◌%◌, ◌≤◌, min, List, [], ◌++◌, append-nil, append_assoc, ⊎_elim, ◌⊎◌, ◌≡◌, refl, sym, ap, ◌∙◌, arith, length, length-append}
 use Rattle.report.specs.Lines.{header, end_line}
 use Rattle.runs.specs.declared.Counts.{Counts}
 use Rattle.blocks.specs.Files.{block_count, blocks, all_blocks}

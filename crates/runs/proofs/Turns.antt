@@ -1,10 +1,6 @@
 -- The turns of the loop over the blocks of a chunk.
 -- Assumes nothing.
-use Prim.Native.Nat.{ℕ, ◌+◌, ◌-◌, ◌*◌, ◌≤◌, ◌<◌, min}
-use mathlib.Core.List.{List, [], ◌∷◌, ◌++◌, append-nil}
-use mathlib.Core.Path.{◌≡◌, ap, ◌∙◌, subst}
-use native.Mathlib.Omega.{arith}
-use lib.ListN.{length, take, drop}
+use Rattle.std.proofs.Common.{ℕ, ◌+◌, ◌-◌, ◌*◌, ◌≤◌, ◌<◌, min, List, [], ◌∷◌, ◌++◌, append-nil, ◌≡◌, ap, ◌∙◌, subst, arith, length, take, drop}
 use Rattle.buffers.specs.Text.{Written}
 use Rattle.buffers.proofs.Writing.{then_written}
 use Rattle.valuing.specs.Block.{block_answer}

@@ -10,7 +10,7 @@ use answers::{Answer, Outcome};
 use valuing::value_block;
 
 // The counts after a chunk, and how many bytes its lines take.
-#[derive(Drop)]
+#[derive(Clone, Copy)]
 pub(crate) struct Lines {
     pub(crate) counts: Counts,
     pub(crate) length: usize,

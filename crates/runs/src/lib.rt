@@ -1,4 +1,6 @@
 // The run over a case file: what is read, chunk after chunk, and what is written of it.
+#![tactic(auto)]
+
 mod chunk;
 mod line;
 mod part;
@@ -13,7 +15,7 @@ pub type Input = [u8; 65536];
 pub type Output = [u8; 33024];
 
 // What can come after the bytes read so far: more, nothing since the file has ended, or nothing since a read failed.
-#[derive(Drop)]
+#[derive(Clone, Copy)]
 pub enum Source {
     Open,
     Ended,
@@ -21,7 +23,7 @@ pub enum Source {
 }
 
 // How many blocks were read, and how many of them were paid.
-#[derive(Drop)]
+#[derive(Clone, Copy)]
 pub struct Counts {
     pub blocks: u32,
     pub paid: u32,
@@ -30,7 +32,7 @@ pub struct Counts {
 // How far a run has come: the counts; how many bytes the next step takes at most, 0 where the run is over; how many of these stand at
 // the start of the input already, a part of a block that waits for its rest; and how many bytes at the start of the output to write
 // before that.
-#[derive(Drop)]
+#[derive(Clone, Copy)]
 pub struct Progress {
     pub counts: Counts,
     pub wanted: usize,
