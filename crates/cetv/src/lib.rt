@@ -1,4 +1,6 @@
 // The entry for the case system, a C program, and the version of the library. include/cetv.h declares both.
+#![tactic(auto)]
+
 ghost use Rattle.std.specs.Prelude.{◌≡◌, length};
 ghost use Rattle.valuing.specs.Block.{block_answer};
 ghost use Rattle.report.specs.Lines.{line_of};
