@@ -2,9 +2,9 @@
 ghost use Rattle.std.specs.Prelude.{◌≡◌};
 ghost use Rattle.buffers.specs.Text.{ascii};
 
-use check::same;
+use std::env::{Env, FillError};
 
-#[derive(Drop)]
+#[derive(Clone, Copy)]
 pub(crate) enum Request {
     Report,
     Help,
@@ -16,25 +16,26 @@ fn asked_by(word: &[u8]) -> Request
     ensures help { (word.now ≡ ascii "--help" → result ≡ Request.Help) × (result ≡ Request.Help → word.now ≡ ascii "--help") }
     ensures version { (word.now ≡ ascii "--version" → result ≡ Request.Version) × (result ≡ Request.Version → word.now ≡ ascii "--version") }
 {
-    if same(word, b"--help") {
+    if word == b"--help".as_slice() {
         return Request::Help;
     }
-    if same(word, b"--version") {
+    if word == b"--version".as_slice() {
         return Request::Version;
     }
     Request::Unknown
 }
 
-// An argument that does not fit the buffer comes as an empty one, which is not known either.
-pub(crate) fn asked() -> Request {
-    let count = os::arg_count();
-    if count < 2 {
-        return Request::Report;
-    }
-    if 2 < count {
-        return Request::Unknown;
-    }
+// An argument that does not fit the buffer is not known either.
+pub(crate) fn asked(rt: &impl Env) -> Request {
     let mut word = [0u8; 16];
-    let n = os::arg(1, &mut word);
-    asked_by(&word[0..n])
+    match rt.arg(2, &mut word) {
+        Ok(_) => return Request::Unknown,
+        Err(FillError::TooLong) => return Request::Unknown,
+        Err(FillError::NotPresent) => {}
+    }
+    match rt.arg(1, &mut word) {
+        Ok(n) => asked_by(&word[..n]),
+        Err(FillError::TooLong) => Request::Unknown,
+        Err(FillError::NotPresent) => Request::Report,
+    }
 }

@@ -1,84 +1,98 @@
 // Writing the report, and the texts that the program is asked for.
-ghost use Rattle.std.specs.Prelude.{◌≤◌};
+ghost use Rattle.std.specs.Prelude.{ℕ, ◌≡◌, ◌≤◌, length, take, IsTrue, OnOk, IsOk};
+ghost use Rattle.std.specs.Io.{WritesAtMost};
+ghost use Rattle.std.specs.Io.KnownBytes.{Appends, WriteAppends};
+ghost use Rattle.version.specs.Version.{version_line};
 
 use crate::MOST_TRIES;
-use libc::{STDERR_FILENO, STDOUT_FILENO};
+use crate::failure::say_failure;
 use runs::Output;
-use version::Line;
+use std::io;
+use std::io::{Eprint, ErrorKind, Write};
 
 // One write, made again where a signal interrupted it before a byte went.
-fn write_once(fd: i32, bytes: &[u8]) -> isize {
-    let mut tries: u32 = 0;
-    while tries < MOST_TRIES {
-        let put = libc::write(fd, bytes);
-        if 0 <= put {
-            return put;
-        }
-        if os::errno() != libc::EINTR {
-            return put;
-        }
-        tries += 1;
-    }
-    libc::write(fd, bytes)
-}
-
-// Says that a write failed, or took nothing; what fails on standard error itself has nowhere to be said.
-fn say_failure(fd: i32, failed: bool) {
-    if fd == STDOUT_FILENO {
-        if failed {
-            os::fail(b"standard output");
-        } else {
-            io::write_all(STDERR_FILENO, b"standard output: nothing more is taken\n");
+fn write_once<W: Write>(writer: &mut W, bytes: &[u8]) -> io::Result<usize>
+    ensures bound { WritesAtMost result bytes.now }
+    ensures bytes { WriteAppends (W.contents writer.old) (W.contents writer.new) result bytes.now }
+{
+    for _ in 0..MOST_TRIES {
+        match writer.write(bytes) {
+            Ok(put) => return Ok(put),
+            Err(e) => {
+                if e.kind() != ErrorKind::Interrupted {
+                    return Err(e);
+                }
+            }
         }
     }
+    writer.write(bytes)
 }
 
-// Writes all the bytes. A failure is said on standard error.
-fn write_whole(fd: i32, bytes: &[u8]) -> bool {
+// Writes all the bytes, or answers why not. Those that went are the first of them.
+fn write_whole<W: Write>(writer: &mut W, bytes: &[u8]) -> io::Result<()>
+    ensures whole { OnOk result (Appends (W.contents writer.old) (W.contents writer.new) bytes.now) }
+    ensures first { (n : ℕ) × (n ≤ length bytes.now) × Appends (W.contents writer.old) (W.contents writer.new) (take n bytes.now) }
+{
     let mut n: usize = 0;
     while n < bytes.len() {
-        let put = write_once(fd, &bytes[n..]);
-        let more = io::count(put, &bytes[n..]);
-        if more == 0 {
-            say_failure(fd, put < 0);
-            return false;
+        match write_once(writer, &bytes[n..]) {
+            Ok(0) => return Err(io::Error::from(ErrorKind::WriteZero)),
+            Ok(more) => n += more,
+            Err(e) => return Err(e),
         }
-        n += more;
     }
-    true
+    Ok(())
+}
+
+// Writes all the bytes, and answers whether they went. A failure is said on standard error.
+fn write_said<W: Write>(rt: &(impl Eprint + Alloc), writer: &mut W, bytes: &[u8]) -> bool
+    ensures whole { IsTrue result → Appends (W.contents writer.old) (W.contents writer.new) bytes.now }
+    ensures first { (n : ℕ) × (n ≤ length bytes.now) × Appends (W.contents writer.old) (W.contents writer.new) (take n bytes.now) }
+{
+    match write_whole(writer, bytes) {
+        Ok(()) => true,
+        Err(e) => {
+            say_failure(rt, "standard output", &e);
+            false
+        }
+    }
 }
 
 // Writes the first bytes of a buffer.
-pub(crate) fn write_report(out: &Output, length: usize) -> bool
+pub(crate) fn write_report<W: Write>(
+    rt: &(impl Eprint + Alloc),
+    writer: &mut W,
+    out: &Output,
+    length: usize,
+) -> bool
     requires { length ≤ 33024 }
+    ensures whole { IsTrue result → Appends (W.contents writer.old) (W.contents writer.new) (take length out.now) }
+    ensures first { (n : ℕ) × (n ≤ length) × Appends (W.contents writer.old) (W.contents writer.new) (take n out.now) }
 {
-    let bytes = &out[..];
-    write_whole(STDOUT_FILENO, &bytes[0..length])
+    write_said(rt, writer, &out[..length])
 }
 
 // A line of the text that is continued loses its leading spaces, hence `\x20`.
-pub(crate) fn say_usage(fd: i32) {
-    write_whole(
-        fd,
-        b"usage: values < CASES > REPORT\n\
-        \x20      values --help | --version\n\
-        \n\
-        Values the case file on standard input, and writes its report to standard\n\
-        output. The report is complete only if its last line is the end line; the exit\n\
-        status does not tell. values-report (bin/report) runs values, checks the report,\n\
-        and has an exit status that does.\n",
-    );
+const USAGE: &[u8] = b"usage: values < CASES > REPORT\n\
+    \x20      values --help | --version\n\
+    \n\
+    Values the case file on standard input, and writes its report to standard\n\
+    output. The report is complete only if its last line is the end line; the exit\n\
+    status does not tell. values-report (bin/report) runs values, checks the report,\n\
+    and has an exit status that does.\n";
+
+// The usage, where it was asked for.
+pub(crate) fn say_usage<W: Write>(rt: &(impl Eprint + Alloc), writer: &mut W) {
+    write_said(rt, writer, USAGE);
 }
 
-fn write_version(line: &Line, length: usize)
-    requires { length ≤ 32 }
-{
-    let bytes = &line[..];
-    write_whole(STDOUT_FILENO, &bytes[0..length]);
+// The usage on standard error, where the arguments are not known.
+pub(crate) fn say_unknown<W: Write>(errors: &mut W) {
+    let _ = write_whole(errors, USAGE);
 }
 
-pub(crate) fn say_version() {
+pub(crate) fn say_version<W: Write>(rt: &(impl Eprint + Alloc), writer: &mut W) {
     let mut line = [0u8; 32];
     let n = version::form_version(&mut line);
-    write_version(&line, n);
+    write_said(rt, writer, &line[..n]);
 }
