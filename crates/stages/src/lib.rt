@@ -1,5 +1,7 @@
 // For the benchmark to time: the stages of the way of a block, one function to a stage, each doing the work of those before it; and
 // the check by bytes.
+#![tactic(auto)]
+
 mod by_bytes;
 
 ghost use Rattle.std.specs.Prelude.{◌≡◌};
