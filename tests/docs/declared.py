@@ -9,6 +9,9 @@ DECLARATION = re.compile(rf"^\s*(?:(?:abbrev|unfoldable|pub)\s+)*({NAME}(?:\s+{N
 TYPE = re.compile(rf"^\s*(?:pub\s+)?(?:record|data)\s+({NAME})")
 NO_DECLARATION = ("--", "let", "use", "module", "record", "pub record", "data", "pub data", "infix", "where", "in ")
 
+# The folder of a crate in which rt keeps what it makes.
+MADE = "out"
+
 # Of the other languages: what declares a name that is used outside, and what declares a part of something.
 PATTERNS = {
     ".rt": r"\bfn (\w+)|^(?:pub )?(?:struct|enum|const|type) (\w+)|\bensures (\w+) \{",
@@ -43,7 +46,7 @@ def names_in(path, parts=False):
     of the code's types too."""
     path = pathlib.Path(path)
     if path.is_dir():
-        return set().union(*(names_in(inner, parts) for inner in path.iterdir()))
+        return set().union(*(names_in(inner, parts) for inner in path.iterdir() if inner.name != MADE))
     if path.suffix == ".edit":
         return {path.stem}
     if path.suffix not in {".antt", *PATTERNS} or path.name in ("stdin", "stdout"):
