@@ -1,6 +1,6 @@
 # Builds the program and the C library: `make`. Both are proved first; what that prints goes to a file under build/ and is shown only
 # where it fails. `make install` and `make uninstall`: docs/INSTALLING.md.
-.PHONY: all values library stages proved install uninstall full-path always
+.PHONY: all values library stages install uninstall full-path always
 
 # Where rt leaves a program and an archive. They are copied to build/values and build/libNAME.a, by which all else goes.
 program = crates/$(1)/out/$(1)
@@ -36,13 +36,6 @@ build/values: build/sources
 build/lib%.a: build/sources
 	$(call quietly,(cd crates/$* && rt lib),$*)
 	@install -m 644 $(call archive,$*) $@
-
-# For .ci/run, after `rt ci`: the program that it proved, and the archive over the libraries that it proved, in place of proving all
-# of them once more.
-proved: build/sources
-	@install -m 755 $(call program,values) build/values
-	$(call quietly,.ci/archive,proved)
-	@install -m 644 $(call archive,cetv) build/libcetv.a
 
 PREFIX ?= /usr/local
 export PREFIX DESTDIR

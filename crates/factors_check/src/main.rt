@@ -90,7 +90,7 @@ fn agrees(words: &mut Split<'_, char>, table: Table, key: u32) -> bool {
 fn compare(rt: &impl Print, text: &str, name: &str, table: Table, first: u32) -> io::Result<u32> {
     let mut key = first;
     let mut agree: u32 = 0;
-    for line in text.lines() {
+    for line in text.split('\n') {
         let mut words = line.split(' ');
         if words.next() == Some(name) {
             if agrees(&mut words, table, key) {

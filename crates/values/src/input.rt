@@ -98,7 +98,7 @@ fn fill<R: Read>(reader: &mut R, buf: &mut [u8], held: usize, wanted: usize) -> 
 
 // Reads after the bytes that are held. A failure is said on standard error.
 pub(crate) fn read<R: Read>(
-    rt: &(impl Eprint + Alloc),
+    rt: &impl Eprint,
     reader: &mut R,
     input: &mut Input,
     held: usize,

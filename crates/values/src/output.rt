@@ -45,7 +45,7 @@ fn write_whole<W: Write>(writer: &mut W, bytes: &[u8]) -> io::Result<()>
 }
 
 // Writes all the bytes, and answers whether they went. A failure is said on standard error.
-fn write_said<W: Write>(rt: &(impl Eprint + Alloc), writer: &mut W, bytes: &[u8]) -> bool
+fn write_said<W: Write>(rt: &impl Eprint, writer: &mut W, bytes: &[u8]) -> bool
     ensures whole { IsTrue result → Appends (W.contents writer.old) (W.contents writer.new) bytes.now }
     ensures first { (n : ℕ) × (n ≤ length bytes.now) × Appends (W.contents writer.old) (W.contents writer.new) (take n bytes.now) }
 {
@@ -60,7 +60,7 @@ fn write_said<W: Write>(rt: &(impl Eprint + Alloc), writer: &mut W, bytes: &[u8]
 
 // Writes the first bytes of a buffer.
 pub(crate) fn write_report<W: Write>(
-    rt: &(impl Eprint + Alloc),
+    rt: &impl Eprint,
     writer: &mut W,
     out: &Output,
     length: usize,
@@ -81,18 +81,21 @@ const USAGE: &[u8] = b"usage: values < CASES > REPORT\n\
     status does not tell. values-report (bin/report) runs values, checks the report,\n\
     and has an exit status that does.\n";
 
-// The usage, where it was asked for.
-pub(crate) fn say_usage<W: Write>(rt: &(impl Eprint + Alloc), writer: &mut W) {
-    write_said(rt, writer, USAGE);
+// The usage, where it was asked for; whether it went.
+pub(crate) fn say_usage<W: Write>(rt: &impl Eprint, writer: &mut W) -> bool {
+    write_said(rt, writer, USAGE)
 }
 
-// The usage on standard error, where the arguments are not known.
-pub(crate) fn say_unknown<W: Write>(errors: &mut W) {
-    let _ = write_whole(errors, USAGE);
+// The usage on standard error, where the arguments are not known; whether it went.
+pub(crate) fn say_unknown<W: Write>(errors: &mut W) -> bool {
+    write_whole(errors, USAGE).is_ok()
 }
 
-pub(crate) fn say_version<W: Write>(rt: &(impl Eprint + Alloc), writer: &mut W) {
+// The version; whether it went.
+pub(crate) fn say_version<W: Write>(rt: &impl Eprint, writer: &mut W) -> bool
+    ensures { IsTrue result → Appends (W.contents writer.old) (W.contents writer.new) version_line }
+{
     let mut line = [0u8; 32];
     let n = version::form_version(&mut line);
-    write_said(rt, writer, &line[..n]);
+    write_said(rt, writer, &line[..n])
 }
