@@ -5,7 +5,7 @@ Every page:
 - A relative link points to a file, and its #anchor to a heading there. Of docs/CHANGES.md, which tells history, this is all.
 - A path in code font exists: from the top of the repository or from crates/; one that starts with a crate's folder (specs/, src/),
   in the crate or folder that stands last before it in the paragraph or row, or in any crate; a bare file name, anywhere. crate/edit is
-  an edit in the crate's must-fail/. What the build makes (build/...), an absolute path and one with a placeholder (NAME, $, <, ~)
+  an edit in the crate's must-fail/. What the build makes (target/...), an absolute path and one with a placeholder (NAME, $, <, ~)
   are passed over. In a command each word that looks like a path of the repository is checked, in fenced code too.
 - A name in code font is a word of letters, digits, _ and -. It is declared somewhere in the repository, is a crate, or stands in
   words.txt, which lists the words in code font that are not the repository's. A word of that list that no page uses is an error.
@@ -106,7 +106,7 @@ def spans_of(text):
 
 
 def outside(word):
-    return word.startswith(("/", "~", "build/", "http:", "https:")) or any(mark in word for mark in "$<>") or "..." in word
+    return word.startswith(("/", "~", "target/", "http:", "https:")) or any(mark in word for mark in "$<>") or "..." in word
 
 
 def path_like(word):
