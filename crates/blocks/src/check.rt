@@ -60,8 +60,8 @@ fn prepended(x: u32, s: Sums) -> Sums
 
 fn add_words(b: &[u8], start: usize, stride: usize, n: usize) -> WordSums
     requires { start + stride * (n - 1) + 4 ≤ length b.now }
-    ensures sums_of { SumsOf n (λ k. word_at b.now (start + stride * k)) result.words }
-    ensures sums_of_2 { SumsOf n (λ k. odd_at b.now (start + stride * k)) result.odd }
+    ensures words { SumsOf n (λ k. word_at b.now (start + stride * k)) result.words }
+    ensures odd { SumsOf n (λ k. odd_at b.now (start + stride * k)) result.odd }
 {
     let mut words = Sums {
         plain: 0,

@@ -34,11 +34,11 @@ fn paid_one(a: Answer) -> u32
 
 // Values the blocks of a chunk, the last of them maybe shorter than 512 bytes, and forms their lines at the start of out.
 pub(crate) fn put_lines(input: &[u8], counts: Counts, out: &mut [u8]) -> Lines
-    requires input_len_bound { length input.now ≤ wanted_after counts }
-    requires in_bounds { 33024 ≤ length out.old }
-    ensures counts_value { result.counts ≡ counted counts (all_blocks input.now) }
+    requires few { length input.now ≤ wanted_after counts }
+    requires room { 33024 ≤ length out.old }
+    ensures counts { result.counts ≡ counted counts (all_blocks input.now) }
     ensures written { Written out.old 0 (lines (counts.blocks + 1) (all_blocks input.now)) out.new result.length }
-    ensures length_bound { result.length + 256 ≤ 33024 }
+    ensures bound { result.length + 256 ≤ 33024 }
 {
     let mut blocks = counts.blocks;
     let mut paid = counts.paid;

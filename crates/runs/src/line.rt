@@ -21,7 +21,7 @@ pub(crate) fn end_of(at: usize, formed: Formed) -> usize
 pub(crate) fn put_line(out: &mut [u8], at: usize, place: u32, answer: Answer) -> usize
     requires { at + 256 ≤ length out.old }
     ensures written { Written out.old at (line_of place answer) out.new result }
-    ensures upper_bound { result ≤ at + 256 }
+    ensures bound { result ≤ at + 256 }
 {
     let formed = form_line(&mut out[at..at + 256], place, answer);
     end_of(at, formed)

@@ -60,11 +60,11 @@ fn read_after<R: Read>(
 // Reads after the bytes that are held until a whole block is there, the input ends or a read fails, and never past what is wanted. A
 // file gives all that is wanted at once; a pipe or a terminal gives what is at hand, and the lines of that need not wait for more.
 fn fill<R: Read>(reader: &mut R, buf: &mut [u8], held: usize, wanted: usize) -> Filled
-    requires held_le_wanted { (held ≤ wanted) × (512 ≤ wanted) }
-    requires wanted_in_bounds { wanted ≤ length buf.old }
-    ensures held_le_length { (held ≤ result.length) × (result.length ≤ wanted) }
-    ensures le_length { result.source ≡ Source.Open → 512 ≤ result.length }
-    ensures buf_unchanged { take held buf.new ≡ take held buf.old }
+    requires order { (held ≤ wanted) × (512 ≤ wanted) }
+    requires room { wanted ≤ length buf.old }
+    ensures bound { (held ≤ result.length) × (result.length ≤ wanted) }
+    ensures open { result.source ≡ Source.Open → 512 ≤ result.length }
+    ensures kept { take held buf.new ≡ take held buf.old }
     ensures read { Consumes (R.remaining reader.old) (R.remaining reader.new) (drop held (take result.length buf.new)) }
     ensures ended { result.source ≡ Source.Ended → IsAtEnd (R.remaining reader.new) }
     ensures failed { (result.source ≡ Source.Failed → IsSome result.failure) × (result.source ≢ Source.Failed → IsNone result.failure) }
@@ -104,11 +104,11 @@ pub(crate) fn read<R: Read>(
     held: usize,
     wanted: usize,
 ) -> Filled
-    requires held_le_wanted { (held ≤ wanted) × (512 ≤ wanted) }
-    requires wanted_bound { wanted ≤ 65536 }
-    ensures held_le_length { (held ≤ result.length) × (result.length ≤ wanted) }
-    ensures le_length { result.source ≡ Source.Open → 512 ≤ result.length }
-    ensures input_unchanged { take held input.new ≡ take held input.old }
+    requires order { (held ≤ wanted) × (512 ≤ wanted) }
+    requires room { wanted ≤ 65536 }
+    ensures bound { (held ≤ result.length) × (result.length ≤ wanted) }
+    ensures open { result.source ≡ Source.Open → 512 ≤ result.length }
+    ensures kept { take held input.new ≡ take held input.old }
     ensures read { Consumes (R.remaining reader.old) (R.remaining reader.new) (drop held (take result.length input.new)) }
     ensures ended { result.source ≡ Source.Ended → IsAtEnd (R.remaining reader.new) }
     ensures failed { (result.source ≡ Source.Failed → IsSome result.failure) × (result.source ≢ Source.Failed → IsNone result.failure) }

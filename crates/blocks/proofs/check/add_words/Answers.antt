@@ -23,8 +23,8 @@ loop-i-preserved c =
       rw c.prepended-odd.ensures (sums_back (λ k. odd_at s (c.args.start + c.args.stride * k)) c.args.n c.loop-i.i c.odd_bytes.result c.loop-i.odd (omega arith) c.loop-i.invariant.0 odd c.loop-i.invariant.2),
     )
 
-pub returns-clause-sums_of_2 : goal.returns-clause-sums_of_2
-returns-clause-sums_of_2 c =
+pub returns-clause-odd : goal.returns-clause-odd
+returns-clause-odd c =
     let e : c.loop-i.i ≡ 0 = omega arith in
     let s = c.args.b.now in
     sums_all (λ k. odd_at s (c.args.start + c.args.stride * k)) c.args.n c.loop-i.i c.loop-i.odd e c.loop-i.invariant.2

@@ -10,13 +10,13 @@ loop-at-init c = at_start c.args.input.now c.args.out.now c.args.counts.blocks c
 pub overflow_add-paid : goal.overflow_add-paid
 overflow_add-paid c =
     let g = c.loop-at.invariant in
-    let w = left_within c.args.counts (omega (arith, c.requires.input_len_bound)) in
-    omega (arith, paid_within g, g.count, g.next, c.requires.input_len_bound, c.paid_one-paid.ensures.1)
+    let w = left_within c.args.counts (omega (arith, c.requires.few)) in
+    omega (arith, paid_within g, g.count, g.next, c.requires.few, c.paid_one-paid.ensures.1)
 
 pub loop-at-preserved : goal.loop-at-preserved
 loop-at-preserved c =
-    turn c.loop-at.invariant c.loop-at-test.true c.least-end.result c.least-end.ensures c.value_block-answer.result c.value_block-answer.ensures.answer c.paid_one-paid.result c.paid_one-paid.ensures.0 c.put_line-used.new.out c.put_line-used.result c.put_line-used.ensures.written c.put_line-used.ensures.upper_bound
+    turn c.loop-at.invariant c.loop-at-test.true c.least-end.result c.least-end.ensures c.value_block-answer.result c.value_block-answer.ensures.answer c.paid_one-paid.result c.paid_one-paid.ensures.0 c.put_line-used.new.out c.put_line-used.result c.put_line-used.ensures.written c.put_line-used.ensures.bound
 
-pub returns-clause-counts_value : goal.returns-clause-counts_value
-returns-clause-counts_value c =
-    (at_end c.loop-at.invariant c.loop-at-test.false (omega (arith, c.requires.input_len_bound))).0
+pub returns-clause-counts : goal.returns-clause-counts
+returns-clause-counts c =
+    (at_end c.loop-at.invariant c.loop-at-test.false (omega (arith, c.requires.few))).0

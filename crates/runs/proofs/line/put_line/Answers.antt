@@ -11,4 +11,4 @@ end_of-requires c =
 pub returns : goal.returns
 returns c =
     let both = line_written c.args.out.now c.args.at (line_of c.args.place c.args.answer) (c.args.at + 256 - c.args.at) (omega arith) c.requires c.form_line-formed.ensures.answer c.form_line-formed.ensures.bytes c.form_line-formed.auto.out c.end_of.ensures in
-    record { written = both.0; upper_bound = both.1 }
+    record { written = both.0; bound = both.1 }
