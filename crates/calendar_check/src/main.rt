@@ -3,71 +3,74 @@
 // first, whether the second stands before the 65th birthday of the first, and the years ahead from the first to the second.
 #![tactic(auto)]
 
-use calendar::{Date, age, before, before_birthday, is_real, years_ahead};
-use std::io::{BufWriter, ErrorKind, Read, Write};
-use std::{fmt, io};
+use calendar::Date;
+use std::io;
+use std::io::{ErrorKind, Read};
 
-#[derive(Drop)]
-struct Pair {
-    first: Date,
-    second: Date,
+fn print_test(rt: &impl Print, holds: bool) -> io::Result<()> {
+    if holds {
+        rt.write_all(b" yes")
+    } else {
+        rt.write_all(b" no")
+    }
 }
 
-// The date in four bytes.
-fn date(b: [u8; 4]) -> Date {
-    let [low, high, month, day] = b;
+fn print_number(rt: &impl Print, n: u64) -> io::Result<()> {
+    rt.write_all(b" ")?;
+    rt.print(n)
+}
+
+fn print_pair(rt: &impl Print, d: Date, e: Date) -> io::Result<()> {
+    let first = calendar::is_real(d);
+    let second = calendar::is_real(e);
+    print_test(rt, first)?;
+    print_test(rt, second)?;
+    if first & second {
+        print_test(rt, calendar::before(d, e))?;
+        print_number(rt, calendar::age(d, e) as u64)?;
+        print_test(rt, calendar::before_birthday(e, d, 65))?;
+        print_number(rt, calendar::years_ahead(d, e) as u64)
+    } else {
+        rt.write_all(b" - - - -")
+    }
+}
+
+// The date in the first four bytes.
+fn date(b: &[u8]) -> Date {
     Date {
-        year: u16::from_le_bytes([low, high]),
-        month,
-        day,
+        year: buffers::u16_at(b, 0),
+        month: buffers::u8_at(b, 2),
+        day: buffers::u8_at(b, 3),
     }
 }
 
-fn yes_or_no(holds: bool) -> &'static str {
-    if holds { "yes" } else { "no" }
-}
-
-impl fmt::Display for Pair {
-    fn fmt<W: fmt::Write>(&self, f: &mut fmt::Formatter<W>) -> fmt::Result {
-        let (d, e) = (self.first, self.second);
-        let (first, second) = (is_real(d), is_real(e));
-        write!(f, "{} {}", yes_or_no(first), yes_or_no(second))?;
-        if !first || !second {
-            return write!(f, " - - - -");
-        }
-        let (order, before_65th) = (
-            yes_or_no(before(d, e)),
-            yes_or_no(before_birthday(e, d, 65)),
-        );
-        let (years, ahead) = (age(d, e), years_ahead(d, e));
-        write!(f, " {order} {years} {before_65th} {ahead}")
-    }
-}
-
-// The next pair, or none at the end of the input.
-fn next_pair<R: Read>(input: &mut R) -> io::Result<Option<Pair>> {
-    let mut b = [0u8; 8];
-    match input.read_exact(&mut b) {
-        Ok(()) => {
-            let [a0, a1, a2, a3, b0, b1, b2, b3] = b;
-            Ok(Some(Pair {
-                first: date([a0, a1, a2, a3]),
-                second: date([b0, b1, b2, b3]),
-            }))
-        }
-        Err(e) if e.kind() == ErrorKind::UnexpectedEof => Ok(None),
+// Reads all of buf; false where the input ends before.
+fn is_filled<R: Read>(input: &mut R, buf: &mut [u8]) -> io::Result<bool> {
+    match input.read_exact(buf) {
+        Ok(()) => Ok(true),
+        Err(e) if e.kind() == ErrorKind::UnexpectedEof => Ok(false),
         Err(e) => Err(e),
     }
 }
 
+// Reads a pair and prints its line; false at the end of the input.
+fn print_line<R: Read>(rt: &impl Print, input: &mut R, place: u64) -> io::Result<bool> {
+    let mut pair = [0u8; 8];
+    if !is_filled(input, &mut pair)? {
+        return Ok(false);
+    }
+    rt.print(place)?;
+    print_pair(rt, date(&pair), date(&pair[4..]))?;
+    rt.write_all(b"\n")?;
+    Ok(true)
+}
+
 fn main(rt: HostRuntime) -> io::Result<()> {
-    let mut out = BufWriter::new(rt.alloc(), rt.stdout())?;
     let mut input = rt.stdin();
     for place in 1..1000000 {
-        let Some(pair) = next_pair(&mut input)? else {
+        if !print_line(&rt, &mut input, place)? {
             break;
-        };
-        writeln!(out, "{place} {pair}")?;
+        }
     }
-    out.flush()
+    Ok(())
 }

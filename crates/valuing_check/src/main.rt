@@ -8,16 +8,21 @@
 use answers::{Items, Outcome};
 use calendar::Date;
 use cases::{Case, Line};
-use refusals::{Refusal, put_name, refusal_number};
-use std::io::{BufReader, BufWriter, ErrorKind, Read, Write};
-use std::{fmt, io, str};
-use valuing::value;
+use refusals::Refusal;
+use std::io;
+use std::io::{ErrorKind, Read};
 
-// What is printed of an outcome.
-#[derive(Drop)]
-struct Printed {
-    outcome: Outcome,
-}
+// The bytes of a record: 16 numbers before the lines, for each of four lines its date and its eight amounts, and then for each the
+// three amounts of its divorce debit.
+const HEAD: usize = 16 * 8;
+
+const LINE: usize = 9 * 8;
+
+const DIVORCE_DEBIT: usize = 3 * 8;
+
+const DEBITS_AT: usize = HEAD + 4 * LINE;
+
+const RECORD: usize = DEBITS_AT + 4 * DIVORCE_DEBIT;
 
 fn u8_of(n: u64) -> u8 {
     (n % 256) as u8
@@ -31,7 +36,7 @@ fn u32_of(n: u64) -> u32 {
     (n % 4294967296) as u32
 }
 
-fn date_of(n: u64) -> Date {
+fn date(n: u64) -> Date {
     Date {
         year: u16_of(n),
         month: u8_of(n / 65536),
@@ -39,145 +44,134 @@ fn date_of(n: u64) -> Date {
     }
 }
 
-fn line_of(amounts: [u64; 9], debit: [u64; 3]) -> Line {
-    let [
-        date,
-        pension,
-        additional,
-        survivor,
-        dependant,
-        lump,
-        modification,
-        scheme_pays,
-        scheme_pays_lump,
-    ] = amounts;
-    let [debit_pension, debit_survivor, debit_lump] = debit;
+fn line(b: &[u8], debit: &[u8]) -> Line {
     Line {
-        date: date_of(date),
-        pension,
-        additional,
-        survivor,
-        dependant,
-        lump,
-        modification,
-        scheme_pays,
-        scheme_pays_lump,
-        debit_pension,
-        debit_survivor,
-        debit_lump,
+        date: date(buffers::u64_at(b, 0)),
+        pension: buffers::u64_at(b, 8),
+        additional: buffers::u64_at(b, 16),
+        survivor: buffers::u64_at(b, 24),
+        dependant: buffers::u64_at(b, 32),
+        lump: buffers::u64_at(b, 40),
+        modification: buffers::u64_at(b, 48),
+        scheme_pays: buffers::u64_at(b, 56),
+        scheme_pays_lump: buffers::u64_at(b, 64),
+        debit_pension: buffers::u64_at(debit, 0),
+        debit_survivor: buffers::u64_at(debit, 8),
+        debit_lump: buffers::u64_at(debit, 16),
     }
 }
 
-fn case_of(head: [u64; 16], lines: [Line; 4]) -> Case {
-    let [
-        kind,
-        number,
-        status,
-        receiver,
-        flags,
-        count,
-        service,
-        sex,
-        birth,
-        leaving,
-        guarantee,
-        state_pension,
-        revaluation,
-        avc,
-        transfer,
-        contributions,
-    ] = head;
+// The case of the numbers at the start of b, and of lines.
+fn case_of(b: &[u8], lines: [Line; 4]) -> Case {
     Case {
-        kind: u16_of(kind),
-        number: u32_of(number),
-        status: u8_of(status),
-        receiver: u8_of(receiver),
-        flags: u8_of(flags),
-        count: u8_of(count),
-        service: u16_of(service),
-        sex: u8_of(sex),
-        birth: date_of(birth),
-        leaving: date_of(leaving),
-        guarantee: date_of(guarantee),
-        state_pension: date_of(state_pension),
-        revaluation: u32_of(revaluation),
-        avc,
-        transfer,
-        contributions,
+        kind: u16_of(buffers::u64_at(b, 0)),
+        number: u32_of(buffers::u64_at(b, 8)),
+        status: u8_of(buffers::u64_at(b, 16)),
+        receiver: u8_of(buffers::u64_at(b, 24)),
+        flags: u8_of(buffers::u64_at(b, 32)),
+        count: u8_of(buffers::u64_at(b, 40)),
+        service: u16_of(buffers::u64_at(b, 48)),
+        sex: u8_of(buffers::u64_at(b, 56)),
+        birth: date(buffers::u64_at(b, 64)),
+        leaving: date(buffers::u64_at(b, 72)),
+        guarantee: date(buffers::u64_at(b, 80)),
+        state_pension: date(buffers::u64_at(b, 88)),
+        revaluation: u32_of(buffers::u64_at(b, 96)),
+        avc: buffers::u64_at(b, 104),
+        transfer: buffers::u64_at(b, 112),
+        contributions: buffers::u64_at(b, 120),
         lines,
     }
 }
 
-fn print_items<W: fmt::Write>(f: &mut fmt::Formatter<W>, m: Items) -> fmt::Result {
-    write!(f, "pay {} pension {} lump {}", m.payment, m.pension, m.lump)?;
-    write!(f, " survivor {} deduct {}", m.survivor, m.deduction)?;
-    write!(f, " underpin {} avc {}", m.underpin, m.avc)
+fn put_after(out: &mut [u8], at: usize, word: &[u8], n: u64) -> usize {
+    let start = buffers::put(out, at, word);
+    buffers::put_decimal(out, start, n)
 }
 
-fn print_refusal<W: fmt::Write>(f: &mut fmt::Formatter<W>, why: Refusal) -> fmt::Result {
-    let mut name = [0u8; 32];
-    let end = put_name(&mut name, 0, why).min(name.len());
-    match str::from_utf8(&name[..end]) {
-        Ok(name) => write!(f, "refused {} {name}", refusal_number(why)),
-        Err(_) => Err(fmt::Error),
+fn put_benefits(out: &mut [u8], at: usize, m: Items) -> usize {
+    let pension = put_after(out, at, b" pension ", m.pension);
+    let lump = put_after(out, pension, b" lump ", m.lump);
+    put_after(out, lump, b" survivor ", m.survivor)
+}
+
+fn put_items(out: &mut [u8], at: usize, m: Items) -> usize {
+    let payment = put_after(out, at, b" pay ", m.payment);
+    let benefits = put_benefits(out, payment, m);
+    let deduction = put_after(out, benefits, b" deduct ", m.deduction);
+    let underpin = put_after(out, deduction, b" underpin ", m.underpin);
+    put_after(out, underpin, b" avc ", m.avc)
+}
+
+fn put_refusal(out: &mut [u8], at: usize, why: Refusal) -> usize {
+    let number = put_after(out, at, b" refused ", refusals::refusal_number(why) as u64);
+    let start = buffers::put(out, number, b" ");
+    refusals::put_name(out, start, why)
+}
+
+fn put_outcome(out: &mut [u8], at: usize, r: Outcome) -> usize {
+    match r {
+        Outcome::Paid(m) => put_items(out, at, m),
+        Outcome::Refused(why) => put_refusal(out, at, why),
     }
 }
 
-impl fmt::Display for Printed {
-    fn fmt<W: fmt::Write>(&self, f: &mut fmt::Formatter<W>) -> fmt::Result {
-        match self.outcome {
-            Outcome::Paid(m) => print_items(f, m),
-            Outcome::Refused(why) => print_refusal(f, why),
-        }
+fn print_start(rt: &impl Print, text: &[u8], n: usize) -> io::Result<()> {
+    if n <= text.len() {
+        rt.write_all(&text[0..n])?;
     }
+    Ok(())
 }
 
-// The next N numbers.
-fn numbers<R: Read, const N: usize>(input: &mut R) -> io::Result<[u64; N]> {
-    let mut all = [0u64; N];
-    for n in &mut all {
-        let mut bytes = [0u8; 8];
-        input.read_exact(&mut bytes)?;
-        *n = u64::from_le_bytes(bytes);
+fn print_outcome(rt: &impl Print, place: u64, number: u32, r: Outcome) -> io::Result<()> {
+    let mut out = [0u8; 256];
+    let start = buffers::put_decimal(&mut out, 0, place);
+    let words = put_after(&mut out, start, b" ", number as u64);
+    let outcome = put_outcome(&mut out, words, r);
+    let end = buffers::put(&mut out, outcome, b"\n");
+    print_start(rt, &out, end)
+}
+
+// Prints the line of a record.
+fn print_case(rt: &impl Print, place: u64, b: &[u8]) -> io::Result<()> {
+    if b.len() == RECORD {
+        let lines = [
+            line(&b[HEAD..], &b[DEBITS_AT..]),
+            line(&b[HEAD + LINE..], &b[DEBITS_AT + DIVORCE_DEBIT..]),
+            line(&b[HEAD + 2 * LINE..], &b[DEBITS_AT + 2 * DIVORCE_DEBIT..]),
+            line(&b[HEAD + 3 * LINE..], &b[DEBITS_AT + 3 * DIVORCE_DEBIT..]),
+        ];
+        let c = case_of(b, lines);
+        print_outcome(rt, place, c.number, valuing::value(c))?;
     }
-    Ok(all)
+    Ok(())
 }
 
-fn read_case<R: Read>(input: &mut R) -> io::Result<Case> {
-    let head = numbers(input)?;
-    let (first, second, third, fourth) = (
-        numbers(input)?,
-        numbers(input)?,
-        numbers(input)?,
-        numbers(input)?,
-    );
-    let lines = [
-        line_of(first, numbers(input)?),
-        line_of(second, numbers(input)?),
-        line_of(third, numbers(input)?),
-        line_of(fourth, numbers(input)?),
-    ];
-    Ok(case_of(head, lines))
-}
-
-// The next case, or none at the end of the input.
-fn next_case<R: Read>(input: &mut R) -> io::Result<Option<Case>> {
-    match read_case(input) {
-        Ok(c) => Ok(Some(c)),
-        Err(e) if e.kind() == ErrorKind::UnexpectedEof => Ok(None),
+// Reads all of buf; false where the input ends before.
+fn is_filled<R: Read>(input: &mut R, buf: &mut [u8]) -> io::Result<bool> {
+    match input.read_exact(buf) {
+        Ok(()) => Ok(true),
+        Err(e) if e.kind() == ErrorKind::UnexpectedEof => Ok(false),
         Err(e) => Err(e),
     }
 }
 
-fn main(rt: HostRuntime) -> io::Result<()> {
-    let mut input = BufReader::new(rt.alloc(), rt.stdin())?;
-    let mut out = BufWriter::new(rt.alloc(), rt.stdout())?;
-    for place in 1..1000000 {
-        let Some(c) = next_case(&mut input)? else {
-            break;
-        };
-        let printed = Printed { outcome: value(c) };
-        writeln!(out, "{place} {} {printed}", c.number)?;
+// Reads a record and prints its line; false at the end of the input.
+fn print_record<R: Read>(rt: &impl Print, input: &mut R, place: u64) -> io::Result<bool> {
+    let mut record = [0u8; RECORD];
+    if !is_filled(input, &mut record)? {
+        return Ok(false);
     }
-    out.flush()
+    print_case(rt, place, &record)?;
+    Ok(true)
+}
+
+fn main(rt: HostRuntime) -> io::Result<()> {
+    let mut input = rt.stdin();
+    for place in 1..1000000 {
+        if !print_record(&rt, &mut input, place)? {
+            break;
+        }
+    }
+    Ok(())
 }

@@ -1,5 +1,5 @@
--- While something is wanted, less is left to read. And while it goes on, there are bytes done of which what was written so far, with
--- what is to be written next, is the report.
+-- While something is wanted, less is left to read. And while it goes on, there are bytes done of which what was written so far, what the
+-- last step formed included, is the report.
 use Rattle.std.proofs.Common.{◌≡◌, ℕ, ◌+◌, ◌%◌, ◌<◌, ◌≤◌, min, List, ◌++◌, take}
 use Rattle.runs.specs.Run.{left}
 use Rattle.runs.specs.Steps.{Reported}
