@@ -1,4 +1,4 @@
--- What tests that are joined by `and` or `or` tell of each. The kit has more: mathlib.Core.Bool, borrow.Author.Tests.
+-- What tests that are joined by `and` or `or` tell of each. The kit has more: Rattle.std.proofs.Math.Bool.
 -- Assumes nothing.
 use Rattle.std.proofs.Common.{Bool, true, false, ◌&&◌, ◌||◌, true≢false, List, [], ◌∷◌, ◌≡◌, refl}
 use Rattle.std.proofs.Math.Bool.{false≢true}

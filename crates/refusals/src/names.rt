@@ -6,7 +6,7 @@ ghost use Rattle.refusals.specs.Refusals.{number_of, name_of, Labelled};
 use crate::Refusal;
 use buffers::put;
 
-// The names in sixteen bytes, spaces after them. They are constants because a match with a byte string in each arm is slow to check.
+// The names in sixteen bytes, spaces after them. They are constants because a match with a byte string in each arm was slow to check.
 const LENGTH: [u8; 16] = *b"length          ";
 
 const CHECK: [u8; 16] = *b"check           ";

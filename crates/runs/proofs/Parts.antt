@@ -1,6 +1,6 @@
 -- The part of a block that waits for its rest: moved to the start of a buffer by way of another, and no byte of it lost.
 -- Assumes nothing.
-use Rattle.std.proofs.Common.{ℕ, ◌+◌, ◌-◌, ◌%◌, ◌≤◌, ◌<◌, min, List, ◌++◌, ◌≡◌, sym, ◌∙◌, arith, length, take, drop, length-take, length-drop, take_at, take-add}
+use Rattle.std.proofs.Common.{ℕ, ◌+◌, ◌-◌, ◌%◌, ◌<◌, min, List, ◌++◌, ◌≡◌, sym, ◌∙◌, arith, length, take, drop, length-take, length-drop, take_at, take-add}
 use Rattle.buffers.specs.Text.{WrittenIfRoom}
 use Rattle.buffers.proofs.Writing.{from_start}
 use Rattle.runs.specs.declared.Counts.{Counts}

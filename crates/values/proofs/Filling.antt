@@ -1,17 +1,9 @@
 -- A read in place: the filled front of a buffer grows by what was read after it.
-use Rattle.std.proofs.Common.{◌≡◌, ℕ, ◌+◌, ◌≤◌, List, ◌++◌, IfOk, length, take, drop, sym, ap, subst, ◌∙◌, arith, drop_at, length-take-le, take-add}
-use lib.Seq.{take-take, take-append-le, drop-append-le}
-use Rattle.std.specs.Prelude.{Option, Result, Ok, Err}
-use Rattle.std.specs.Io.{ReadsAtMost}
+use Rattle.std.proofs.Common.{◌≡◌, ℕ, ◌+◌, ◌≤◌, List, ◌++◌, length, take, drop, sym, ap, subst, ◌∙◌, arith, length-take-le, take-add}
+use lib.Seq.{take-take, drop-append-le}
+use Rattle.std.specs.Prelude.{Option}
 use Rattle.std.specs.Io.KnownBytes.{Consumes}
 use Rattle.std.proofs.KnownBytes.{Consumes-trans}
-
--- what was read into the part stands after the front
-pub Consumes-in_place : {E : Type 0} (a b : Option (List ℕ)) (r : Result ℕ E) (front part rest : List ℕ) (at : ℕ) → length front ≡ at → ReadsAtMost r part
-    → IfOk r (λ n. Consumes a b (take n part)) → IfOk r (λ n. Consumes a b (take n (drop at (front ++ (part ++ rest)))))
-Consumes-in_place a b (Ok n) front part rest at long fits read =
-    subst (Consumes a b) (sym (ap (take n) (drop_at front (part ++ rest) at long) ∙ take-append-le n part rest fits.0)) read
-Consumes-in_place a b (Err e) front part rest at long fits read = tt
 
 -- xs was filled up to f, and ys has that front and n bytes more; h of them were held before
 pub filled_more : (a b c : Option (List ℕ)) (xs ys : List ℕ) (h f n : ℕ) → h ≤ f → f ≤ length ys → take f ys ≡ take f xs

@@ -1,4 +1,4 @@
--- `label_of` meets its contract: a word and a line to a refusal.
+-- `label_of` meets its contract: one answer to a refusal.
 use Rattle.refusals.proofs.Naming.{labelled}
 use Rattle.refusals.proofs.names.label_of.Goals as goal
 
