@@ -14,7 +14,7 @@ MADE = "out"
 
 # Of the other languages: what declares a name that is used outside, and what declares a part of something.
 PATTERNS = {
-    ".rt": r"\bfn (\w+)|^(?:pub )?(?:struct|enum|const|type) (\w+)|\bensures (\w+) \{",
+    ".rt": r"\bfn (\w+)|^(?:pub(?:\(crate\))? )?(?:struct|enum|const|static|type) (\w+)|\bensures (\w+) \{",
     ".rs": r"\bfn (\w+)|\b(?:struct|enum|const|static|mod|type|trait) (\w+)",
     ".py": r"^(?:def|class) (\w+)|^(\w+) = ",
     ".c": r"^(?!static const)\w[^=;]*?\b(\w+)\(|#define (\w+)",
@@ -59,5 +59,6 @@ def names_in(path, parts=False):
 
 
 def public_functions(crate):
+    """Public functions and methods."""
     text = "".join(path.read_text() for path in sorted(crate.glob("src/**/*.rt")))
-    return re.findall(r'^pub (?:extern "C" )?fn (\w+)', text, re.M)
+    return re.findall(r'^ *pub (?:extern "C" )?fn (\w+)', text, re.M)

@@ -64,7 +64,7 @@ def main():
         else:
             out.write(f"{number} refused {expectation_text(expectation)}\n".encode())
     if sys.argv[1] == "stdout":
-        # Beside a refusal stands the case of zeros.
+        # A refusal has no case beside it.
         out.write(b"0 refused readings with a field\n")
     return 0
 

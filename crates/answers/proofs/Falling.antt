@@ -1,13 +1,14 @@
 -- In an accepted case of the 2015 scheme every line is dated before all the lines above it. Refusal 6 compares each line with
 -- the first, and 17 each of the others with the one above it; the rest follows, since the order of dates is transitive.
 -- Assumes nothing.
-use Rattle.std.proofs.Common.{ℕ, zero, suc, ◌-◌, ◌≤◌, ◌<◌, true, false, not, ◌&&◌, ◌||◌, ◌≡◌, refl, arith, leb, ltb, ltb-true, lt-ltb, le-leb}
+use Rattle.std.proofs.Common.{ℕ, zero, suc, ◌-◌, ◌≤◌, ◌<◌, true, false, not, ◌&&◌, ◌||◌, ◌≡◌, refl, arith, leb, ltb, lt-ltb, le-leb}
 use Rattle.std.proofs.Math.Decide.{ℕ_discrete}
 use Rattle.std.proofs.Math.Numerals.{unary_clauses}
 use borrow.Author.Tests.{not-false}
 use Rattle.numbers.proofs.Below.{any_false}
 use Rattle.numbers.proofs.Tests.{and_right_false, or_false}
-use Rattle.calendar.specs.Dates.{rank, before}
+use Rattle.calendar.specs.Dates.{before}
+use Rattle.calendar.proofs.Order.{before_transitive}
 use Rattle.calendar.specs.Moving.{moved_on}
 use Rattle.calendar.specs.declared.Date.{Date}
 use Rattle.refusals.proofs.Order.{none_given}
@@ -18,10 +19,6 @@ use Rattle.cases.specs.declared.Case.{Case}
 use Rattle.cases.proofs.PastCount.{few_lines}
 use Rattle.entitlement.specs.Entitlement.{misplaced, dates_fault, out_of_order, order_fault}
 use Rattle.answers.specs.Answer.{Accepted, tests}
-
-before_transitive : (d e f : Date) → before d e ≡ true → before e f ≡ true → before d f ≡ true
-before_transitive d e f p q =
-    lt-ltb (rank d) (rank f) (omega (arith, ltb-true (rank d) (rank e) p, ltb-true (rank e) (rank f) q))
 
 module _ (c : Case) (dated : (rules_of c.kind).dated ≡ true) where
   -- what either test tells of a line at place m or later, within the count

@@ -1,11 +1,10 @@
 -- Valuing a case: its refusals in their order, and the payment with its items.
 -- Assumes nothing.
-use Rattle.std.specs.Prelude.{ℕ, Bool, false, List, [], ◌∷◌, ◌++◌}
+use Rattle.std.specs.Prelude.{ℕ, Bool, false, List, [], ◌∷◌, ◌++◌, Result, Ok, Err}
 use Rattle.refusals.specs.Refusals.{number_of}
-use Rattle.refusals.specs.Tests.{Test, ◌gives◌, first, NoneOf}
+use Rattle.refusals.specs.Tests.{Test, ◌gives◌, Verdict, first, NoneOf}
+use Rattle.refusals.specs.declared.Refusal.{Refusal}
 use Rattle.refusals.specs.declared.Refusal.TheVariants.{Factor, Debit, Negative, Award}
-use Rattle.refusals.specs.declared.Verdict.{Verdict}
-use Rattle.refusals.specs.declared.Verdict.TheVariants.{Passed, Refused as Refusing}
 use Rattle.cases.specs.Entries.{any_line}
 use Rattle.cases.specs.Form.{form_tests}
 use Rattle.cases.specs.declared.Case.{Case}
@@ -52,10 +51,15 @@ items_of c =
       avc = c.avc;
     }
 
+-- the outcome of working out a payment
+abbrev pub outcome_of : Result Items Refusal → Outcome
+outcome_of (Ok m) = Paid m
+outcome_of (Err r) = Refused r
+
 -- what a verdict makes of a case: the refusal, or the payment
 abbrev pub outcome_by : Verdict → Case → Outcome
-outcome_by Passed c = Paid (items_of c)
-outcome_by (Refusing r) c = Refused r
+outcome_by (Ok u) c = Paid (items_of c)
+outcome_by (Err r) c = Refused r
 
 -- the answer to a case
 unfoldable pub answer_of : Case → Outcome

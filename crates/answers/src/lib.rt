@@ -1,10 +1,12 @@
 // The answer to a case. The code that works it out is in `valuing`.
 #![tactic(auto)]
 
+mod conversion;
+
 use refusals::Refusal;
 
-// The payment and its items: payment, underpin and AVC in pence, the others in hundredths of a penny, over all lines.
-#[derive(Clone, Copy)]
+/// The payment and its items: payment, underpin and AVC in pence, the others in hundredths of a penny, over all lines.
+#[derive(Clone, Copy, Debug, PartialEq, Eq)]
 pub struct Items {
     pub payment: u64,
     pub pension: u64,
@@ -15,15 +17,15 @@ pub struct Items {
     pub avc: u64,
 }
 
-// What is paid for a case, item by item, or why nothing is.
-#[derive(Clone, Copy)]
+/// What is paid for a case, item by item, or why nothing is. An enum of its own, as 01 names it: a refusal is an answer too.
+#[derive(Clone, Copy, Debug, PartialEq, Eq)]
 pub enum Outcome {
     Paid(Items),
     Refused(Refusal),
 }
 
-// An outcome beside the case number, which is 0 where the block could not be read.
-#[derive(Clone, Copy)]
+/// An outcome beside the case number, which is 0 where the block could not be read: as 01 has it, since a line is formed of both.
+#[derive(Clone, Copy, Debug, PartialEq, Eq)]
 pub struct Answer {
     pub number: u32,
     pub outcome: Outcome,

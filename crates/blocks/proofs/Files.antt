@@ -2,6 +2,7 @@
 -- Assumes nothing.
 use Rattle.std.proofs.Common.{◌≡◌, ℕ, zero, suc, ◌+◌, ◌-◌, ◌*◌, ◌<◌, ◌≤◌, min, ◌⊎◌, List, [], ◌∷◌, ◌++◌, length, take, drop, sym, refl, ap, ◌∙◌, inl, inr, ⊎_elim, zero-add, add-one, arith, length-drop, take_all, drop-drop}
 use Rattle.std.proofs.Math.Decide.{dec_le}
+use Rattle.std.proofs.lemmas.Bool.{cases_lt}
 use Rattle.std.proofs.Math.Seq.{take-append-le, drop-append-le}
 use Rattle.blocks.specs.Files.{blocks}
 
@@ -51,9 +52,9 @@ blocks_more k s = rw add-one (last_block k s)
 pub block_part : (s : List ℕ) (at end : ℕ) → end ≡ min (at + 512) (length s) → at ≤ length s → take (end - at) (drop at s) ≡ take 512 (drop at s)
 block_part s at end e h =
     ⊎_elim
-    (λ (l : at + 512 ≤ length s). let k : end - at ≡ 512 = omega arith in rw k)
     (λ (l : length s < at + 512).
     let n : length (drop at s) ≡ length s - at = length-drop at s in
     let k : end - at ≡ length s - at = omega arith in
     rw k (take_all (length s - at) (drop at s) (omega arith) ∙ sym (take_all 512 (drop at s) (omega arith))))
-    (split (at + 512) (length s))
+    (λ (l : at + 512 ≤ length s). let k : end - at ≡ 512 = omega arith in rw k)
+    (cases_lt (length s) (at + 512))

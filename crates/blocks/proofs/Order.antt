@@ -1,17 +1,18 @@
 -- The refusals of reading.
 -- Assumes nothing.
-use Rattle.std.proofs.Common.{◌≡◌, ℕ, Bool, ◌||◌, List, refl, ap, ◌∙◌, arith}
+use Rattle.std.proofs.Common.{◌≡◌, ℕ, Bool, ◌||◌, List, refl, ap, ◌∙◌, arith, Ok, Err}
+use Rattle.std.specs.Prelude.{Result}
+use Rattle.std.specs.Result.{result_and}
 use Rattle.numbers.proofs.Tests.{or_false}
-use Rattle.refusals.specs.Tests.{first, NoneOf, verdict_number}
-use Rattle.refusals.specs.declared.Verdict.{Verdict}
-use Rattle.refusals.specs.declared.Verdict.TheVariants.{Passed, Refused}
+use Rattle.refusals.specs.Tests.{first, NoneOf, Verdict, verdict_number}
+use Rattle.refusals.specs.declared.Refusal.{Refusal}
 use Rattle.refusals.proofs.Order.{first_none}
 use Rattle.cases.specs.Entries.{case_by, any_line}
 use Rattle.cases.specs.Kinds.{rules_of}
 use Rattle.cases.specs.Form.{kind_fault, line_reserved_fault, line_range_fault, head_reserved_fault, reserved_fault, dates_range_fault, head_range_fault, range_fault, form_tests, form_tests_by, WellFormed}
+use Rattle.cases.specs.declared.Case.{Case}
 use Rattle.blocks.specs.Block.{head_of, case_of, unnamed_fault}
-use Rattle.blocks.specs.Reading.{reading_tests, reading_by, reading_of}
-use Rattle.blocks.specs.declared.Reading.{Reading}
+use Rattle.blocks.specs.Reading.{reading_tests, reading_of, reading_number}
 
 -- the refusals of a block's case, from its fields before the lines and from what its lines break
 pub by_head :
@@ -26,21 +27,23 @@ by_head s unnamed = refl
 
 -- the number that a reading gives
 pub numbered :
-    (r : Reading) (s : List ℕ) → r ≡ reading_of s → verdict_number r.verdict ≡ verdict_number (first (reading_tests s))
+    (r : Result Case Refusal) (s : List ℕ) → r ≡ reading_of s → reading_number r ≡ verdict_number (first (reading_tests s))
 unfolding reading_of
-numbered r s e = ap (λ (x : Reading). verdict_number x.verdict) e ∙ kept (first (reading_tests s))
+numbered r s e = ap reading_number e ∙ kept (first (reading_tests s))
   where
-    kept : (v : Verdict) → verdict_number (reading_by v (case_of s)).verdict ≡ verdict_number v
-    kept Passed = refl
-    kept (Refused why) = refl
+    kept : (v : Verdict) → reading_number (result_and v (Ok (case_of s))) ≡ verdict_number v
+    kept (Ok u) = refl
+    kept (Err why) = refl
 
 -- a case that was read is well formed
-pub read_well_formed : (s : List ℕ) → (reading_of s).verdict ≡ Passed → WellFormed (reading_of s).case
+pub read_well_formed : (s : List ℕ) {c : Case} → reading_of s ≡ Ok c → WellFormed c
 unfolding reading_of
-read_well_formed s e = go (first (reading_tests s)) refl e
+read_well_formed s {c} e = go (first (reading_tests s)) refl e
   where
-    go : (v : Verdict) → first (reading_tests s) ≡ v → (reading_by v (case_of s)).verdict ≡ Passed → WellFormed (reading_by v (case_of s)).case
-    go (Refused why) p e = absurd (let z : ◌≡◌ {A = ℕ} 0 1 = cc in omega arith)
-    go Passed p e =
+    go : (v : Verdict) → first (reading_tests s) ≡ v → result_and v (Ok (case_of s)) ≡ Ok c → WellFormed c
+    go (Err why) p e = absurd (let z : ◌≡◌ {A = ℕ} 0 1 = cc in omega arith)
+    go (Ok u) p e =
         let form : NoneOf (form_tests (unnamed_fault s) (case_of s)) = (first_none (reading_tests s) p).1.1 in
-        (form.0, ((or_false (unnamed_fault s) (reserved_fault (case_of s)) form.1.0).1, form.1.1))
+        let same : case_of s ≡ c = cc in
+        let formed : WellFormed (case_of s) = (form.0, ((or_false (unnamed_fault s) (reserved_fault (case_of s)) form.1.0).1, form.1.1)) in
+        rw same at formed

@@ -1,6 +1,6 @@
 -- The laws of the sums that the check is made of: of numbers, and of numbers times their places.
 -- Assumes nothing.
-use Rattle.std.proofs.Common.{◌≡◌, ℕ, suc, ◌+◌, ◌-◌, ◌*◌, ◌<◌, ◌≤◌, refl, ap, ◌∙◌, subst, mul_assoc, suc-mul, mul_comm, add-mul, mul-le-mul_left, zero-mul, mul-add, arith}
+use Rattle.std.proofs.Common.{◌≡◌, ℕ, suc, ◌+◌, ◌-◌, ◌*◌, ◌<◌, ◌≤◌, ap, ◌∙◌, subst, mul_assoc, suc-mul, mul_comm, add-mul, mul-le-mul_left, zero-mul, mul-add, arith}
 use Rattle.numbers.specs.Below.{sum_below}
 use Rattle.numbers.proofs.Below.{sum_plus, sum_times, sum_same, sum_mono, sum_fewer, sum_first}
 use Rattle.blocks.specs.Words.{weighted_sum, SumsOf, prepend}
@@ -10,9 +10,9 @@ use Rattle.blocks.specs.declared.check.Sums.{Sums}
 abbrev pub SumsFrom : (ℕ → ℕ) → ℕ → ℕ → Sums → Type 0
 SumsFrom x n i t = SumsOf (n - i) (λ k. x (i + k)) t
 
-pub sums_none : (x : ℕ → ℕ) → SumsOf 0 x (record { plain = 0; weighted = 0 })
+pub sums_none : (x : ℕ → ℕ) (n : ℕ) (t : Sums) → n ≡ 0 → t.plain ≡ 0 → t.weighted ≡ 0 → SumsOf n x t
 unfolding sum_below
-sums_none x = record { is_plain = refl; is_weighted = refl }
+sums_none x n t size plain weighted = rw size (record { is_plain = plain; is_weighted = weighted })
 
 sums_more : (n : ℕ) (x : ℕ → ℕ) (y : ℕ) (t : Sums) → y ≡ x 0 → SumsOf n (λ k. x (suc k)) t → SumsOf (suc n) x (prepend y t)
 sums_more n x y t e b =

@@ -1,11 +1,12 @@
 -- The check, from the sums of its words.
 -- Assumes nothing.
-use Rattle.std.proofs.Common.{◌≡◌, ℕ, ◌+◌, ◌-◌, ◌*◌, ◌/◌, ◌%◌, ◌<◌, ◌≤◌, List, length, get_or, sym, ap, ◌∙◌, add-zero, add-mul, mul-le-mul_left, mul-add, arith}
+use Rattle.std.proofs.Common.{◌≡◌, ℕ, ◌+◌, ◌-◌, ◌*◌, ◌/◌, ◌%◌, ◌<◌, ◌≤◌, List, length, take, get_or, le-ltb, lt-ltb, sym, ap, ◌∙◌, add-zero, add-mul, mul-le-mul_left, mul-add, arith}
+use Rattle.std.proofs.lemmas.List.{get_or-take}
 use Rattle.numbers.specs.Below.{sum_below}
 use Rattle.numbers.proofs.Below.{sum_split, sum_plus, sum_times, sum_same, sum_rows, sum_columns}
 use Rattle.buffers.specs.Bytes.{number_at}
 use Rattle.buffers.proofs.Bytes.{number_one, number_join}
-use Rattle.blocks.specs.Block.{checksum}
+use Rattle.blocks.specs.Block.{checksum, checksum_or_zero}
 use Rattle.blocks.specs.Words.{word_sum, odd_bytes, front_at, back_at, odd_at, word_at, weighted_sum, SumsOf, halves, weighed}
 use Rattle.blocks.specs.declared.check.Sums.{Sums}
 use Rattle.blocks.proofs.Sums.{Linear, plain_linear, weighted_linear, small_sums, placed}
@@ -142,3 +143,13 @@ module _ (s : List ℕ) (start stride n : ℕ) (small : (q : ℕ) → get_or s q
         sum_times n 2 back,
         bytes,
       ))
+
+-- the check of bytes too few, and that of the first 508 of them
+pub checksum_short : (s : List ℕ) → length s < 508 → 0 ≡ checksum_or_zero s
+unfolding checksum_or_zero
+checksum_short s h = rw (lt-ltb (length s) 508 h)
+
+pub checksum_first : (s first : List ℕ) → 508 ≤ length s → first ≡ take 508 s → checksum first ≡ checksum_or_zero s
+unfolding checksum checksum_or_zero
+checksum_first s first h e =
+    rw (le-ltb (length s) 508 h, e) (sum_same 508 (λ p. (p + 1) * get_or s p 0) (λ p. (p + 1) * get_or (take 508 s) p 0) (λ p q. rw (get_or-take 508 s p 0 q)))

@@ -1,90 +1,71 @@
 // Reading a block: refusals 1 to 5, or the case that it holds.
-ghost use Rattle.std.specs.Prelude.{◌≡◌, ◌≤◌, length};
+ghost use Rattle.std.specs.Prelude.{◌≡◌, ◌≤◌, ◌==◌, not};
 ghost use Rattle.refusals.specs.Tests.{first, verdict_number};
-ghost use Rattle.cases.specs.Layout.{place};
-ghost use Rattle.cases.specs.Entries.{line_by, any_line};
+ghost use Rattle.cases.specs.Layout.{check};
+ghost use Rattle.cases.specs.Entries.{any_line};
 ghost use Rattle.cases.specs.Kinds.{rules_of};
 ghost use Rattle.cases.specs.Form.{line_reserved_fault, line_range_fault, form_tests};
-ghost use Rattle.blocks.specs.Block.{field_of, head_of, case_of, unnamed_fault};
-ghost use Rattle.blocks.specs.Reading as reading;
+ghost use Rattle.blocks.specs.Block.{field_of, checksum, head_of, case_of, unnamed_fault};
+ghost use Rattle.blocks.specs.Reading.{reading_tests, reading_of, reading_number};
 
-use crate::Reading;
-use crate::check::checksum;
-use crate::fields::{case_of, head_of, line_of, zero_case};
+use crate::check::block_checksum;
+use crate::fields::{head_of, line_of, lines_of};
 use crate::gaps::{line_nonzero, unnamed_fault};
-use buffers::u32_at;
-use cases::{Case, Faults, Rules, faults_of_line, form_verdict_by, rules_of};
-use refusals::{Refusal, Verdict, refuse_if};
+use crate::{Block, CHECK};
+use buffers::bytes_at;
+use cases::{Case, Faults, RuledCase};
+use refusals::{Refusal, refuse_if};
 
-// What line i of a block, from 0, breaks. Past the count nearly every line is zeros, which its bytes show at less cost than its
-// fields.
-fn faults_of_block_line(b: &[u8], rules: Rules, flags: u8, count: u8, i: u8) -> Faults
-    requires { (i ≤ 3) × (512 ≤ length b.now) }
-    ensures { (result.reserved ≡ line_reserved_fault rules flags count i (line_by (λ e. field_of b.now (place e)) i)) × (result.range ≡ line_range_fault rules count i (line_by (λ e. field_of b.now (place e)) i)) }
+// Whether the check that a block holds is not the one that its other bytes make.
+#[tactic(auto, unfolding(crate::specs::Block::checksum_or_zero))]
+fn is_damaged(block: &Block) -> bool
+    ensures { result ≡ not (checksum block.now == field_of block.now check) }
 {
-    if count <= i && !line_nonzero(b, i as usize) {
-        return Faults {
-            reserved: false,
-            range: false,
-        };
-    }
-    faults_of_line(rules, flags, count, i, line_of(b, i as usize))
+    block_checksum(block) != u32::from_le_bytes(bytes_at(block, CHECK))
 }
 
-// What the lines of a block break. Each is read and tested by itself: a whole case made for this would be spread over the stack and
-// copied again.
-fn faults_of_block_lines(b: &[u8], kind: u16, flags: u8, count: u8) -> Faults
-    requires { 512 ≤ length b.now }
-    ensures { (result.reserved ≡ any_line (line_reserved_fault (rules_of kind) flags count) (case_of b.now)) × (result.range ≡ any_line (line_range_fault (rules_of kind) count) (case_of b.now)) }
+// What the lines of a block break, whose fields before the lines are those of `head`. Each is read and tested by itself: a whole case
+// made for this would be spread over the stack and copied again. Past the count nearly every line is zeros, which breaks nothing; its
+// bytes show that at less cost than its fields. A loop of its own: one with that of `cases` would be handed a closure, and ask of it
+// what each caller promises.
+fn faults_of_lines(block: &Block, head: &RuledCase<'_>) -> Faults
+    ensures reserved { result.reserved ≡ any_line (line_reserved_fault (rules_of head.now.case.now.kind) head.now.case.now.flags head.now.case.now.count) (case_of block.now) }
+    ensures range { result.range ≡ any_line (line_range_fault (rules_of head.now.case.now.kind) head.now.case.now.count) (case_of block.now) }
 {
-    let rules = rules_of(kind);
-    let mut reserved = false;
-    let mut range = false;
-    let mut i: u8 = 0;
-    while i < 4 {
-        let faults = faults_of_block_line(b, rules, flags, count, i);
-        reserved = reserved | faults.reserved;
-        range = range | faults.range;
-        i += 1;
+    let RuledCase { case, rules, .. } = head;
+    let mut faults = Faults::default();
+    for place in 0..4 {
+        if usize::from(case.count) <= place && !line_nonzero(block, place) {
+            continue;
+        }
+        let of_line = rules.faults_of_line(case.flags, case.count, place, &line_of(block, place));
+        faults.reserved |= of_line.reserved;
+        faults.range |= of_line.range;
     }
-    Faults { reserved, range }
+    faults
 }
 
 // Refusals 3, 4 and 5 of a block's case, whose fields before the lines are those of `head`. Its lines are tested in the block.
-fn form_verdict_of(b: &[u8], head: Case) -> Verdict
-    requires { (512 ≤ length b.now) × (head ≡ head_of b.now) }
-    ensures { result ≡ first (form_tests (unnamed_fault b.now) (case_of b.now)) }
+fn check_form(block: &Block, head: &Case) -> Result<(), Refusal>
+    requires { head.now ≡ head_of block.now }
+    ensures { result ≡ first (form_tests (unnamed_fault block.now) (case_of block.now)) }
 {
-    let lines = faults_of_block_lines(b, head.kind, head.flags, head.count);
-    form_verdict_by(head, unnamed_fault(b), lines)
+    let ruled = RuledCase::new(head);
+    ruled.check_form_by(unnamed_fault(block), faults_of_lines(block, &ruled))
 }
 
-// The first of refusals 1 to 5 that applies to a block of any length, or that none does.
-fn verdict_of(b: &[u8], head: Case) -> Verdict
-    requires { head ≡ head_of b.now }
-    ensures { result ≡ first (reading.reading_tests b.now) }
+/// The case that a block of any length holds, or the first of refusals 1 to 5 that applies.
+#[tactic(auto, unfolding(crate::specs::Reading::reading_of, crate::specs::Block::head_of, crate::specs::Block::case_of, cases::specs::Entries::case_by))]
+pub fn read_block(b: &[u8]) -> Result<Case, Refusal>
+    ensures reading { result ≡ reading_of b.now }
+    ensures number { reading_number result ≡ verdict_number (first (reading_tests b.now)) }
 {
-    if b.len() != 512 {
-        return Verdict::Refused(Refusal::Length);
-    }
-    let damaged = checksum(b) != u32_at(b, 508);
-    refuse_if(damaged, Refusal::Check, form_verdict_of(b, head))
-}
-
-// Reads a block of any length.
-pub fn read_block(b: &[u8]) -> Reading
-    ensures reading { result ≡ reading.reading_of b.now }
-    ensures number { verdict_number result.verdict ≡ verdict_number (first (reading.reading_tests b.now)) }
-{
-    let head = head_of(b);
-    match verdict_of(b, head) {
-        Verdict::Passed => Reading {
-            verdict: Verdict::Passed,
-            case: case_of(b, head),
-        },
-        Verdict::Refused(why) => Reading {
-            verdict: Verdict::Refused(why),
-            case: zero_case(),
-        },
-    }
+    let block: &Block = b.try_into().map_err(|_| Refusal::Length)?;
+    refuse_if(is_damaged(block), Refusal::Check)?;
+    let head = head_of(block);
+    check_form(block, &head)?;
+    Ok(Case {
+        lines: lines_of(block),
+        ..head
+    })
 }

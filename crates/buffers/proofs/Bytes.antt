@@ -1,9 +1,13 @@
 -- The laws of numbers in bytes, over the width and the position.
 -- Assumes nothing.
-use Rattle.std.proofs.Common.{ℕ, zero, suc, ◌+◌, ◌*◌, ◌^◌, ◌≤◌, ◌<◌, mul_assoc, arith, List, [], ◌∷◌, ◌++◌, ◌≡◌, length, take, drop, get_or, length-drop, drop-cons, drop-drop, take-add, length-take-le, le-leb}
+use Rattle.std.proofs.Common.{ℕ, zero, suc, ◌+◌, ◌-◌, ◌*◌, ◌^◌, ◌≤◌, ◌<◌, mul_assoc, arith, List, [], ◌∷◌, ◌++◌, ◌≡◌, length, take, drop, get_or, length-drop, drop-cons, drop-drop, take-add, length-take-le, le-leb, Bool, true, false, cond, leb, refl, sym, ap, ◌∙◌, Some, None, replicate, not-suc-le-zero}
 use Rattle.std.proofs.Math.Nat.{pow-succ'}
-use borrow.Author.Tests.{lt-leb}
-use Rattle.buffers.specs.Bytes.{little_endian, number_at}
+use Rattle.std.proofs.Math.Seq.{take-suc, take-length}
+use Rattle.std.proofs.lemmas.List.{length-replicate}
+use Rattle.std.specs.Option.{unwrap_or}
+use borrow.Author.Tests.{leb-true}
+use Rattle.std.specs.Int.{byte_worth, sum_through}
+use Rattle.buffers.specs.Bytes.{part_at, bytes_at, little_endian, number_at, number_from_le_bytes}
 
 -- bytes and then more bytes
 append : (a b : List ℕ) → little_endian (a ++ b) ≡ little_endian a + 256 ^ length a * little_endian b
@@ -14,11 +18,6 @@ append (x ∷ a) b = rw (append a b, pow-succ' 256 (length a), mul_assoc 256 (25
 within : (width : ℕ) (s : List ℕ) (p : ℕ) → p + width ≤ length s → number_at width s p ≡ little_endian (take width (drop p s))
 unfolding number_at
 within width s p h = rw (le-leb (p + width) (length s) h)
-
--- where its bytes do not all stand there
-pub number_none : (width : ℕ) (s : List ℕ) (p : ℕ) → length s < p + width → number_at width s p ≡ 0
-unfolding number_at
-number_none width s p h = rw (lt-leb (p + width) (length s) h)
 
 pub number_one : (s : List ℕ) (p : ℕ) → p + 1 ≤ length s → number_at 1 s p ≡ get_or s p 0
 unfolding little_endian
@@ -40,3 +39,35 @@ number_zero (suc n) s p h z =
     let first : get_or s p 0 ≡ 0 = rw here (z 0 (omega arith)) in
     let rest = number_zero n s (p + 1) (omega arith) (λ k q. let next : p + 1 + k ≡ p + (k + 1) = omega arith in rw next (z (k + 1) (omega arith))) in
     rw (e, number_join 1 n s p (omega arith), number_one s p (omega arith), first, rest) (omega arith)
+
+-- std's number of the first bytes of a list
+sum_of_first : (k : ℕ) (bs : List ℕ) → suc k ≤ length bs → sum_through (λ i. byte_worth i (get_or bs i 0)) k ≡ little_endian (take (suc k) bs)
+unfolding little_endian
+sum_of_first zero [] h = absurd (not-suc-le-zero h)
+sum_of_first zero (b ∷ bs) h = omega arith
+sum_of_first (suc k) bs h =
+    let l : length (take (suc k) bs) ≡ suc k = length-take-le (suc k) bs (omega arith) in
+    rw (sum_of_first k bs (omega arith), take-suc bs (suc k) 0 h, append (take (suc k) bs) (get_or bs (suc k) 0 ∷ []), l) (omega arith)
+
+zeros : (n : ℕ) → little_endian (replicate n 0) ≡ 0
+unfolding little_endian
+zeros zero = refl
+zeros (suc n) = omega (arith, zeros n)
+
+-- the number that std makes of n bytes
+pub number_of : (n : ℕ) (bs : List ℕ) → length bs ≡ n → number_from_le_bytes n bs ≡ little_endian bs
+unfolding little_endian
+number_of zero [] l = refl
+number_of zero (b ∷ bs) l = absurd (omega arith)
+number_of (suc k) bs l =
+    let e : suc k - 1 ≡ k = omega arith in
+    rw e (sum_of_first k bs (omega arith) ∙ ap little_endian (ap (λ (n : ℕ). take n bs) (sym l) ∙ take-length bs))
+
+-- the number that std makes of the bytes at an index
+pub number_of_bytes : (n : ℕ) (s : List ℕ) (p : ℕ) → number_from_le_bytes n (bytes_at n s p) ≡ number_at n s p
+unfolding bytes_at part_at number_at
+number_of_bytes n s p = by (leb (p + n) (length s)) refl
+  where
+    by : (b : Bool) → leb (p + n) (length s) ≡ b → number_from_le_bytes n (unwrap_or (cond b (Some (take n (drop p s))) None) (replicate n 0)) ≡ cond b (little_endian (take n (drop p s))) 0
+    by true e = number_of n (take n (drop p s)) (length-take-le n (drop p s) (rw length-drop (omega (arith, leb-true (p + n) (length s) e))))
+    by false e = number_of n (replicate n 0) (length-replicate n 0) ∙ zeros n

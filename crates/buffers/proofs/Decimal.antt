@@ -3,14 +3,18 @@
 use Rattle.std.proofs.Common.{ℕ, zero, suc, ◌+◌, ◌-◌, ◌*◌, ◌/◌, ◌%◌, ◌^◌, ◌≤◌, ◌<◌, List, [], ◌∷◌, ◌++◌, append_assoc, append-nil, ⊎_elim, ◌⊎◌, inl, inr, ◌≡◌, refl, sym, ap, ◌∙◌, not-suc-le-zero, pow-suc, mul_assoc, add-suc, add-zero, div-one, div-lt_iff_lt-mul, le-div_iff_mul-le, mod-eq_of_lt, add-one, arith, lit<, length, set, length-set, length-append, lt-ltb, le-ltb}
 use Rattle.std.proofs.Math.Decide.{dec_lt}
 use Rattle.std.proofs.Math.Nat.{one-le-pow, pow-succ', add-mul-div_left, add-mul-mod_self_left, mod-add-div, div-div-eq-div-mul}
+use Rattle.std.specs.Int.{w16, to_le_bytes}
 use Rattle.buffers.specs.Text.{put_at, Written}
-use Rattle.buffers.proofs.Writing.{put_stored, put_back, put_byte, written_length, then_written}
-use Rattle.buffers.specs.Decimal.{last_digit, last_digits, digits_within, decimal}
+use Rattle.buffers.proofs.Writing.{put_empty, put_stored, put_back, put_byte, written_length, then_written}
+use Rattle.buffers.specs.Decimal.{last_digit, last_digits, digits_within, decimal, fixed_point}
 
 pub length_digits : (k n : ℕ) → length (last_digits k n) ≡ k
 unfolding last_digits
 length_digits zero n = refl
 length_digits (suc k) n = length-append (last_digits k (n / 10)) (last_digit n) ∙ ap (λ (m : ℕ). m + 1) (length_digits k (n / 10)) ∙ add-one k
+
+pub length_fixed : (whole d n : ℕ) → length (fixed_point whole d n) ≡ length (decimal whole) + 1 + d
+length_fixed whole d n = simp (length-append, length_digits)
 
 -- the digits before the last k make no difference to them
 digits_above : (k a q : ℕ) → last_digits k (a + 10 ^ k * q) ≡ last_digits k a
@@ -33,18 +37,25 @@ digits_join j (suc k) n =
     rw (add-suc, digits_join j k (n / 10), rest_of k n) (append_assoc (last_digits j (n / 10 ^ suc k)) (last_digits k (n / 10)) (last_digit n))
 
 -- two digits in one number, the first of them in its low byte
-pub put_two : (b : List ℕ) (at n : ℕ) → n < 100 → at + 2 ≤ length b
-    → set (set b (at + 1) ((48 + n / 10 + 256 * (48 + n % 10)) / 256)) at ((48 + n / 10 + 256 * (48 + n % 10)) % 256) ≡ put_at b at (last_digits 2 n)
+pub two_bytes : (n : ℕ) → n < 100 → to_le_bytes w16 (48 + n / 10 + 256 * (48 + n % 10)) ≡ last_digits 2 n
 unfolding last_digits
-put_two b at n h room =
+two_bytes n h =
     let both : ℕ = 48 + n / 10 + 256 * (48 + n % 10) in
     let tens : n / 10 % 10 ≡ n / 10 = mod-eq_of_lt {n = n / 10} {m = 10} (omega arith) in
-    let low : both % 256 ≡ 48 + n / 10 % 10 =
-    add-mul-mod_self_left (48 + n / 10) 256 (48 + n % 10) ∙ mod-eq_of_lt {n = 48 + n / 10} {m = 256} (omega arith) ∙ ap (λ (m : ℕ). 48 + m) (sym tens) in
-    let high : both / 256 ≡ 48 + n % 10 = omega arith in
-    let last : List ℕ = set b (at + 1) (48 + n % 10) in
-    rw (low, high)
-    (put_byte last at (48 + n / 10 % 10) (omega (arith, length-set b (at + 1) (48 + n % 10))) ∙ put_stored b at ((48 + n / 10 % 10) ∷ []) (48 + n % 10) (omega arith))
+    let low : both % 256 ≡ 48 + n / 10 % 10 = omega arith in
+    let high : both / 256 % 256 ≡ 48 + n % 10 = omega arith in
+    λ i. low i ∷ high i ∷ []
+
+-- the last digit is stored first
+pub put_digit : (b : List ℕ) (at j n : ℕ) → at + j < length b → put_at (set b (at + j) (48 + n % 10)) at (last_digits j (n / 10)) ≡ put_at b at (last_digits (suc j) n)
+unfolding last_digits
+put_digit b at j n room =
+    let l = length_digits j (n / 10) in
+    rw l at (put_stored b at (last_digits j (n / 10)) (48 + n % 10) (omega arith))
+
+pub put_no_digit : (b : List ℕ) (at n : ℕ) → at ≤ length b → put_at b at (last_digits 0 n) ≡ b
+unfolding last_digits
+put_no_digit b at n room = put_empty b at room
 
 -- the last k of some digits are written first
 pub put_last : (b : List ℕ) (at j k n : ℕ) → at + (j + k) ≤ length b

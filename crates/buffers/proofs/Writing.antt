@@ -1,30 +1,31 @@
 -- The laws of writing a text: over the buffer, the position and the text; and of texts written one after the other.
 -- Assumes nothing.
 use Rattle.std.proofs.Common.{ℕ, suc, ◌+◌, ◌≤◌, ◌<◌, List, [], ◌∷◌, ◌++◌, append_assoc, append-nil, ◌≡◌, refl, sym, ap, ◌∙◌, add-zero, zero-add, arith, length, take, drop, set, length-set, length-append, length-take, length-drop, take-append-drop, take-take, take_at, drop_at, drop-drop, length-take-le, le-leb}
-use Rattle.std.proofs.Math.Seq.{paste, take-length, take-append-le, drop-append-le, drop-append-add, take-set-le, set_split}
-use borrow.Author.Tests.{lt-leb}
+use Rattle.std.proofs.Math.Seq.{take-append-le, drop-append-le, drop-append-add, take-set-le, set_split}
 use Rattle.buffers.specs.Text.{put_at, put_end, Written, WrittenIfRoom}
 
 module _ (buffer : List ℕ) (p : ℕ) (text : List ℕ) where
-  -- where there is no room
-  pub put_none : length buffer < p + length text → (buffer ≡ put_at buffer p text) × (p ≡ put_end buffer p text)
-  unfolding put_at put_end
-  put_none h = let e = lt-leb (p + length text) (length buffer) h in (rw e, rw e)
-
-  -- where there is
-  pub put_some : p + length text ≤ length buffer → (paste buffer p text (length text) ≡ put_at buffer p text) × (p + length text ≡ put_end buffer p text)
-  unfolding put_at put_end
-  put_some h = let e = le-leb (p + length text) (length buffer) h in (rw (e, take-length), rw e)
-
+  -- where there is room
   pub put_over : p + length text ≤ length buffer → put_at buffer p text ≡ take p buffer ++ text ++ drop (p + length text) buffer
-  put_over h = sym (put_some h).0 ∙ rw take-length
+  unfolding put_at
+  put_over h = rw (le-leb (p + length text) (length buffer) h)
+
+  pub put_ends : p + length text ≤ length buffer → put_end buffer p text ≡ p + length text
+  unfolding put_end
+  put_ends h = rw (le-leb (p + length text) (length buffer) h)
 
   pub length_put : p + length text ≤ length buffer → length (put_at buffer p text) ≡ length buffer
   length_put h = ap length (put_over h) ∙ simp (length-append, length-take, length-drop) (omega arith)
 
+  -- the text copied over a part of the buffer, of as many bytes
+  pub put_over_part : {k : ℕ} {u : List ℕ} → k ≡ length text → u ≡ text → p + length text ≤ length buffer
+      → take p buffer ++ (u ++ drop k (drop p buffer)) ≡ put_at buffer p text
+  put_over_part size same h =
+      rw (size, same, put_over h, drop-drop (length text) p buffer) (sym (append_assoc (take p buffer) text (drop (p + length text) buffer)))
+
 -- what the promise of writing gives where there is room
 pub if_room : {b t a : List ℕ} {p e : ℕ} → a ≡ put_at b p t → e ≡ put_end b p t → WrittenIfRoom b p t a e
-if_room {b} {t} {a} {p} {e} bytes stop h = let s = stop ∙ sym (put_some b p t h).1 in record { bytes = bytes; stop = s; room = omega arith }
+if_room {b} {t} {a} {p} {e} bytes stop h = let s = stop ∙ put_ends b p t h in record { bytes = bytes; stop = s; room = omega arith }
 
 -- the byte after a text, stored before the text is written
 pub put_stored : (b : List ℕ) (p : ℕ) (t : List ℕ) (x : ℕ) → p + length t < length b → put_at (set b (p + length t) x) p t ≡ put_at b p (t ++ (x ∷ []))
@@ -105,6 +106,12 @@ from_start {b} {t} {a} {e} w =
     let s : e ≡ 0 + length t = w.stop in
     let r = w.room in
     (s ∙ zero-add (length t), w.bytes ∙ put_over b 0 t (omega arith) ∙ rw zero-add)
+
+-- and what is written of a text that starts in a buffer m, the same as b
+pub from_new : {b m t a : List ℕ} {p e : ℕ} → m ≡ b → p ≡ 0 → length t ≤ length b → WrittenIfRoom m p t a e → (e ≡ length t) × (a ≡ t ++ drop (length t) b)
+from_new {b} {m} {t} {a} {p} {e} same start short w =
+    let v : WrittenIfRoom b 0 t a e = rw (same, start) at w in
+    from_start (v (omega arith))
 
 -- a text written at the start of a part of a buffer is written in the buffer
 pub in_part : {b t : List ℕ} {p k : ℕ} → p + k ≤ length b → length t ≤ k

@@ -1,7 +1,6 @@
 -- Numbers in decimal.
 -- Assumes nothing.
-use Rattle.std.specs.Prelude.{ℕ, zero, suc, ◌+◌, ◌/◌, ◌%◌, cond, List, [], ◌∷◌, ◌++◌, ltb}
-use Rattle.buffers.specs.Text.{ascii}
+use Rattle.std.specs.Prelude.{ℕ, zero, suc, ◌+◌, ◌/◌, ◌%◌, cond, List, [], ◌∷◌, ◌++◌, ltb, codes}
 
 -- the last digit of n, in ASCII
 abbrev pub last_digit : ℕ → List ℕ
@@ -23,4 +22,4 @@ decimal n = digits_within (suc n) n
 
 -- a whole part in decimal, a point, and the last d digits of n
 abbrev pub fixed_point : ℕ → ℕ → ℕ → List ℕ
-fixed_point whole d n = decimal whole ++ ascii "." ++ last_digits d n
+fixed_point whole d n = decimal whole ++ codes "." ++ last_digits d n

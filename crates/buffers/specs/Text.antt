@@ -1,14 +1,12 @@
 -- A text written into a buffer.
 -- Assumes nothing.
-use Rattle.std.specs.Prelude.{ℕ, ◌+◌, ◌≤◌, cond, List, [], ◌∷◌, ◌++◌, ◌≡◌, length, take, drop}
-use Prim.Native.Char.{code}
-use Prim.Native.String.{String, [] as empty, ◌∷◌ as ◌then◌}
+use Rattle.std.specs.Prelude.{ℕ, ◌+◌, ◌≤◌, cond, List, ◌++◌, ◌≡◌, Option, Some, None, length, take, drop}
+use Prim.Native.String.{String}
 use Rattle.buffers.specs.Bytes.{fits}
 
--- the bytes of a text in ASCII
-abbrev pub ascii : String → List ℕ
-ascii empty = []
-ascii (c then s) = code c ∷ ascii s
+-- the position after so many bytes from p on, if they fit within a length
+abbrev pub end_after : ℕ → ℕ → ℕ → Option ℕ
+end_after n p size = cond (fits n p size) (Some (p + size)) None
 
 -- the buffer with the text over its bytes from position p on, where it fits; else as it was
 unfoldable pub put_at : List ℕ → ℕ → List ℕ → List ℕ

@@ -1,10 +1,9 @@
-// Little-endian numbers in bytes; writing a text or a number in decimal into a lent buffer.
+// Bytes at an index; a text under construction in a lent buffer.
 #![tactic(auto)]
 
 mod digits;
 mod number;
 mod text;
 
-pub use digits::{put_decimal, put_fixed_point};
-pub use number::{u8_at, u16_at, u32_at, u64_at};
-pub use text::put;
+pub use number::bytes_at;
+pub use text::Text;

@@ -1,6 +1,8 @@
 -- Real days of the Gregorian calendar in the years 1900 to 2199, and the order of dates.
 -- Assumes nothing.
-use Rattle.std.specs.Prelude.{ℕ, ◌+◌, ◌*◌, ◌%◌, Bool, cond, not, ◌&&◌, ◌||◌, eqb, leb, ltb}
+use Rattle.std.specs.Prelude.{ℕ, ◌+◌, ◌*◌, ◌%◌, Bool, cond, not, ◌&&◌, ◌||◌, eqb, leb, Option, Some}
+use Rattle.std.specs.Ordering.{nat_cmp, partial_ordering_then, partial_lt}
+use Rattle.std.specs.declared.cmp.Ordering.{Ordering}
 use Rattle.calendar.specs.declared.Date.{Date}
 
 abbrev pub is_leap : ℕ → Bool
@@ -21,9 +23,15 @@ is_real d = leb 1900 d.year && leb d.year 2199 && leb 1 d.day && leb d.day (days
 abbrev pub is_zero : Date → Bool
 is_zero d = eqb d.year 0 && eqb d.month 0 && eqb d.day 0
 
--- dates stand in the order of year, then month, then day, of which the last two are bytes
-abbrev pub rank : Date → ℕ
-rank d = d.year * 65536 + d.month * 256 + d.day
+-- dates are in the order of year, then month, then day
+abbrev pub date_cmp : Date → Date → Option Ordering
+date_cmp d e =
+    partial_ordering_then (Some (nat_cmp d.year e.year))
+    (partial_ordering_then (Some (nat_cmp d.month e.month)) (Some (nat_cmp d.day e.day)))
 
 abbrev pub before : Date → Date → Bool
-before d e = ltb (rank d) (rank e)
+before d e = partial_lt date_cmp d e
+
+-- a date as one number: where month and day are bytes, these numbers are in the order of the dates (the law before_by_rank)
+abbrev pub rank : Date → ℕ
+rank d = d.year * 65536 + d.month * 256 + d.day

@@ -4,10 +4,10 @@
 mod day;
 mod moving;
 
-pub use day::{before, is_real, is_zero};
 pub use moving::{age, before_birthday, years_ahead};
 
-#[derive(Clone, Copy)]
+/// A date by its numbers, which need not be a real day. Dates are in the order of year, then month, then day.
+#[derive(Clone, Copy, Debug, Default, PartialEq, Eq, PartialOrd, Ord, Hash)]
 pub struct Date {
     pub year: u16,
     pub month: u8,

@@ -1,70 +1,57 @@
-// Moving a date on by years, and what is counted by it: birthdays, age and years ahead.
-ghost use Rattle.std.specs.Prelude.{◌≡◌, ◌-◌};
+// Moving a date on by years, and what is counted by it: birthdays, age and years ahead. These are no methods: of two dates neither is
+// the one that is asked.
+ghost use Rattle.std.specs.Prelude.{◌≡◌};
 ghost use Rattle.calendar.specs.Dates as dates;
 ghost use Rattle.calendar.specs.Moving as moving;
 
 use crate::Date;
-use crate::day::{before, is_leap};
+use crate::day::is_leap;
 
-// The date in another year: month and day stay, but 29 February is 28 February in a common year.
-#[tactic(auto, unfolding(crate::specs::Moving::in_year))]
-fn in_year(year: u16, d: Date) -> Date
-    ensures { result ≡ moving.in_year year d }
-{
-    if (d.month == 2) & (d.day == 29) & !is_leap(year) {
-        Date {
-            year: year,
-            month: 2,
-            day: 28,
-        }
-    } else {
-        Date {
-            year: year,
-            month: d.month,
-            day: d.day,
+impl Date {
+    // The date in another year: month and day stay, but 29 February is 28 February in a common year.
+    #[tactic(auto, unfolding(crate::specs::Moving::in_year))]
+    fn in_year(self, year: u16) -> Date
+        ensures { result ≡ moving.in_year year self }
+    {
+        if self.month == 2 && self.day == 29 && !is_leap(year) {
+            Date {
+                year,
+                day: 28,
+                ..self
+            }
+        } else {
+            Date { year, ..self }
         }
     }
 }
 
-// Whether a day stands before the birth moved on by so many years.
-#[tactic(auto, using(crate::proofs::Moved::before_in))]
+/// Whether `on` stands before the birthday on which one born on `birth` reaches the age of `years`. Here and below one born on
+/// 29 February has a birthday on 28 February in a common year.
+#[tactic(auto, using(crate::proofs::Order::earlier_year, crate::proofs::Moved::year_is))]
 pub fn before_birthday(on: Date, birth: Date, years: u16) -> bool
     ensures { result ≡ dates.before on (moving.moved_on years birth) }
 {
-    let year = birth.year as u32 + years as u32;
-    let now = on.year as u32;
-    (now < year) | ((now == year) & before(on, in_year(on.year, birth)))
+    match birth.year.checked_add(years) {
+        Some(year) => on < birth.in_year(year),
+        // a year past every date
+        None => true,
+    }
 }
 
-// The years from one to another, or 0.
-fn years_between(from: u16, to: u16) -> u16
-    ensures { result ≡ to - from }
-{
-    if from <= to { to - from } else { 0 }
-}
-
-// The number of birthdays reached.
+/// The age in years: the number of birthdays that one born on `birth` has reached by the day `on`, that day included.
+#[tactic(auto, using(crate::proofs::Ages::age_is))]
 pub fn age(birth: Date, on: Date) -> u16
     ensures { result ≡ moving.age birth on }
 {
-    let years = years_between(birth.year, on.year);
-    let birthday = in_year(on.year, birth);
-    if (0 < years) & before(on, birthday) {
-        years - 1
-    } else {
-        years
-    }
+    let years = on.year.saturating_sub(birth.year);
+    years.saturating_sub(u16::from(on < birth.in_year(on.year)))
 }
 
-// The fewest years after which one date, moved on, no longer stands before another.
+/// The fewest years after which `from`, moved on by them, no longer stands before `to`.
+#[tactic(auto, using(crate::proofs::YearsAhead::ahead_is))]
 pub fn years_ahead(from: Date, to: Date) -> u32
     ensures { result ≡ moving.years_ahead from to }
 {
-    let years = years_between(from.year, to.year) as u32;
-    let moved = in_year(to.year, from);
-    if (from.year <= to.year) & before(moved, to) {
-        years + 1
-    } else {
-        years
-    }
+    let years = u32::from(to.year.saturating_sub(from.year));
+    years + u32::from(from.year <= to.year && from.in_year(to.year) < to)
 }

@@ -3,74 +3,50 @@
 // first, whether the second stands before the 65th birthday of the first, and the years ahead from the first to the second.
 #![tactic(auto)]
 
-use calendar::Date;
+use calendar::{Date, age, before_birthday, years_ahead};
 use std::io;
 use std::io::{ErrorKind, Read};
 
-fn print_test(rt: &impl Print, holds: bool) -> io::Result<()> {
-    if holds {
-        rt.write_all(b" yes")
+fn yes_or_no(holds: bool) -> &'static str {
+    if holds { "yes" } else { "no" }
+}
+
+fn print_pair(rt: &impl Print, place: u64, d: Date, e: Date) -> io::Result<()> {
+    let (first, second) = (d.is_real(), e.is_real());
+    print!(rt; "{place} {} {} ", yes_or_no(first), yes_or_no(second))?;
+    if first && second {
+        let before = yes_or_no(d < e);
+        let before_65 = yes_or_no(before_birthday(e, d, 65));
+        println!(rt; "{before} {} {before_65} {}", age(d, e), years_ahead(d, e))
     } else {
-        rt.write_all(b" no")
+        println!(rt; "- - - -")
     }
 }
 
-fn print_number(rt: &impl Print, n: u64) -> io::Result<()> {
-    rt.write_all(b" ")?;
-    rt.print(n)
+// The date in the next four bytes: its year, low byte first, month and day.
+fn read_date<R: Read>(input: &mut R) -> io::Result<Date> {
+    let mut bytes = [0u8; 4];
+    input.read_exact(&mut bytes)?;
+    let [low, high, month, day] = bytes;
+    Ok(Date {
+        year: u16::from_le_bytes([low, high]),
+        month,
+        day,
+    })
 }
 
-fn print_pair(rt: &impl Print, d: Date, e: Date) -> io::Result<()> {
-    let first = calendar::is_real(d);
-    let second = calendar::is_real(e);
-    print_test(rt, first)?;
-    print_test(rt, second)?;
-    if first & second {
-        print_test(rt, calendar::before(d, e))?;
-        print_number(rt, calendar::age(d, e) as u64)?;
-        print_test(rt, calendar::before_birthday(e, d, 65))?;
-        print_number(rt, calendar::years_ahead(d, e) as u64)
-    } else {
-        rt.write_all(b" - - - -")
+fn print_pairs<R: Read>(rt: &impl Print, input: &mut R) -> io::Result<()> {
+    // Every loop is proved to end, hence a limit.
+    for place in 1..1_000_000 {
+        print_pair(rt, place, read_date(input)?, read_date(input)?)?;
     }
-}
-
-// The date in the first four bytes.
-fn date(b: &[u8]) -> Date {
-    Date {
-        year: buffers::u16_at(b, 0),
-        month: buffers::u8_at(b, 2),
-        day: buffers::u8_at(b, 3),
-    }
-}
-
-// Reads all of buf; false where the input ends before.
-fn is_filled<R: Read>(input: &mut R, buf: &mut [u8]) -> io::Result<bool> {
-    match input.read_exact(buf) {
-        Ok(()) => Ok(true),
-        Err(e) if e.kind() == ErrorKind::UnexpectedEof => Ok(false),
-        Err(e) => Err(e),
-    }
-}
-
-// Reads a pair and prints its line; false at the end of the input.
-fn print_line<R: Read>(rt: &impl Print, input: &mut R, place: u64) -> io::Result<bool> {
-    let mut pair = [0u8; 8];
-    if !is_filled(input, &mut pair)? {
-        return Ok(false);
-    }
-    rt.print(place)?;
-    print_pair(rt, date(&pair), date(&pair[4..]))?;
-    rt.write_all(b"\n")?;
-    Ok(true)
+    Ok(())
 }
 
 fn main(rt: HostRuntime) -> io::Result<()> {
-    let mut input = rt.stdin();
-    for place in 1..1000000 {
-        if !print_line(&rt, &mut input, place)? {
-            break;
-        }
+    match print_pairs(&rt, &mut rt.stdin()) {
+        // The input has ended, maybe in a pair, of which nothing is said.
+        Err(e) if e.kind() == ErrorKind::UnexpectedEof => Ok(()),
+        printed => printed,
     }
-    Ok(())
 }

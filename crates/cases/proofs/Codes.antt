@@ -1,4 +1,4 @@
--- Codes are numbered from 1: which are listed, where n is the last.
+-- Codes are numbered from 1: which are listed, where n is the last. No proof cites these; docs/MAP.md names them.
 -- Assumes nothing.
 use Rattle.std.proofs.Common.{ℕ, ◌≤◌, ◌<◌, true, false, ◌&&◌, ◌≡◌, leb, le-leb}
 use borrow.Author.Tests.{lt-leb}

@@ -4,3 +4,4 @@ pub mod RowsOfKinds
 pub mod PastCount
 pub mod Transfers
 pub mod AllBits
+pub mod FlagBits

@@ -4,14 +4,8 @@ ghost use Rattle.std.specs.Prelude.{◌≡◌};
 ghost use Rattle.cases.specs.Bits.{all_bits};
 
 // Every bit that is set in one of some amounts.
-pub(crate) fn all_bits(n: &[u64]) -> u64
-    ensures { result ≡ all_bits n.now }
+pub(crate) fn all_bits(amounts: &[u64]) -> u64
+    ensures { result ≡ all_bits amounts.now }
 {
-    let mut bits: u64 = 0;
-    let mut i = n.len();
-    while 0 < i {
-        i -= 1;
-        bits = n[i] | bits;
-    }
-    bits
+    amounts.iter().fold(0, |bits, &amount| bits | amount)
 }

@@ -1,118 +1,111 @@
 // Refusals 3, 4 and 5 of a case.
-ghost use Rattle.std.specs.Prelude.{◌≡◌, ◌||◌};
+ghost use Rattle.std.specs.Prelude.{◌≡◌, ◌||◌, ltb};
 ghost use Rattle.refusals.specs.Tests.{first, verdict_number};
-ghost use Rattle.cases.specs.Kinds.{rules_of};
 ghost use Rattle.cases.specs.Form as form;
 
 use crate::flags::{choice_optant_flag, gmp_flag, transfer_flag, unused_flag};
-use crate::kinds::rules_of;
-use crate::lines::{faults_of_lines, too_large};
-use crate::{Case, Faults, Rules};
-use refusals::{Refusal, Verdict, refuse_if};
+use crate::lines::too_large;
+use crate::{Case, Faults, RuledCase};
+use refusals::{Refusal, refuse_if};
 
 // Whether the kind is not listed, or does not allow the count of lines.
 #[tactic(auto, unfolding(crate::specs::Form::kind_fault))]
-fn kind_fault(c: Case, rules: Rules) -> bool
-    requires { rules ≡ rules_of c.kind }
-    ensures { result ≡ form.kind_fault c.kind c.count }
+fn kind_fault(ruled: &RuledCase<'_>) -> bool
+    ensures { result ≡ form.kind_fault ruled.now.case.now.kind ruled.now.case.now.count }
 {
-    !((1 <= c.count) & (c.count <= rules.lines))
-}
-
-fn status_listed(x: u8) -> bool
-    ensures { result ≡ form.status_listed x }
-{
-    match x {
-        1..=4 => true,
-        _ => false,
-    }
-}
-
-fn receiver_listed(x: u8) -> bool
-    ensures { result ≡ form.receiver_listed x }
-{
-    match x {
-        1..=3 => true,
-        _ => false,
-    }
-}
-
-fn sex_listed(x: u8) -> bool
-    ensures { result ≡ form.sex_listed x }
-{
-    match x {
-        1..=2 => true,
-        _ => false,
-    }
+    !(1..=ruled.rules.lines).contains(&ruled.case.count)
 }
 
 // Whether a field before the lines that must be zero is not.
 #[tactic(auto, unfolding(crate::specs::Form::head_reserved_fault))]
-fn head_reserved_fault(c: Case, rules: Rules) -> bool
-    requires { rules ≡ rules_of c.kind }
-    ensures { result ≡ form.head_reserved_fault c }
+fn head_reserved_fault(ruled: &RuledCase<'_>) -> bool
+    ensures { result ≡ form.head_reserved_fault ruled.now.case.now }
 {
-    unused_flag(c.flags)
-        | (!gmp_flag(c.flags) & !calendar::is_zero(c.state_pension))
-        | (!transfer_flag(c.flags) & (c.transfer != 0))
-        | (!rules.transfers & (transfer_flag(c.flags) | (c.contributions != 0)))
-        | (!rules.choice_optants & choice_optant_flag(c.flags))
-        | (!rules.sex & (c.sex != 0))
+    let RuledCase { case, rules, .. } = ruled;
+    unused_flag(case.flags)
+        || (!gmp_flag(case.flags) && !case.state_pension.is_zero())
+        || (!transfer_flag(case.flags) && case.transfer != 0)
+        || (!rules.transfers && (transfer_flag(case.flags) || case.contributions != 0))
+        || (!rules.choice_optants && choice_optant_flag(case.flags))
+        || (!rules.sex && case.sex != 0)
+}
+
+// Codes are decided by a match on ranges; one function to a list keeps the tests below flat.
+fn is_status_listed(status: u8) -> bool
+    ensures { result ≡ form.status_listed status }
+{
+    matches!(status, 1..=4)
+}
+
+fn is_receiver_listed(receiver: u8) -> bool
+    ensures { result ≡ form.receiver_listed receiver }
+{
+    matches!(receiver, 1..=3)
+}
+
+fn is_sex_listed(sex: u8) -> bool
+    ensures { result ≡ form.sex_listed sex }
+{
+    matches!(sex, 1..=2)
 }
 
 #[tactic(auto, unfolding(crate::specs::Form::dates_range_fault))]
-fn dates_range_fault(c: Case) -> bool
-    ensures { result ≡ form.dates_range_fault c }
+fn dates_range_fault(case: &Case) -> bool
+    ensures { result ≡ form.dates_range_fault case.now }
 {
-    !calendar::is_real(c.birth)
-        | !calendar::is_real(c.leaving)
-        | !calendar::is_real(c.guarantee)
-        | (gmp_flag(c.flags) & !calendar::is_real(c.state_pension))
+    !case.birth.is_real()
+        || !case.leaving.is_real()
+        || !case.guarantee.is_real()
+        || (gmp_flag(case.flags) && !case.state_pension.is_real())
+}
+
+// Whether the revaluation factor, an amount or a date before the lines is out of its range.
+fn is_amount_or_date_out_of_range(case: &Case) -> bool
+    ensures { result ≡ (ltb case.now.revaluation 10000 || ltb 100000 case.now.revaluation || form.too_large case.now.avc || form.too_large case.now.transfer || form.too_large case.now.contributions || form.dates_range_fault case.now) }
+{
+    !(10_000..=100_000).contains(&case.revaluation)
+        || too_large(case.avc)
+        || too_large(case.transfer)
+        || too_large(case.contributions)
+        || dates_range_fault(case)
 }
 
 // Whether a field before the lines is out of its range.
 #[tactic(auto, unfolding(crate::specs::Form::head_range_fault))]
-fn head_range_fault(c: Case, rules: Rules) -> bool
-    requires { rules ≡ rules_of c.kind }
-    ensures { result ≡ form.head_range_fault c }
+fn head_range_fault(ruled: &RuledCase<'_>) -> bool
+    ensures { result ≡ form.head_range_fault ruled.now.case.now }
 {
-    (c.number == 0)
-        | !status_listed(c.status)
-        | !receiver_listed(c.receiver)
-        | (rules.sex & !sex_listed(c.sex))
-        | (c.revaluation < 10000)
-        | (100000 < c.revaluation)
-        | too_large(c.avc)
-        | too_large(c.transfer)
-        | too_large(c.contributions)
-        | dates_range_fault(c)
+    let case = ruled.case;
+    case.number == 0
+        || !is_status_listed(case.status)
+        || !is_receiver_listed(case.receiver)
+        || (ruled.rules.sex && !is_sex_listed(case.sex))
+        || is_amount_or_date_out_of_range(case)
 }
 
-// Refusals 3, 4 and 5 as form_verdict gives them, where it is known already what the lines break: those of c are not looked at.
-pub fn form_verdict_by(c: Case, unnamed: bool, lines: Faults) -> Verdict
-    ensures verdict { result ≡ first (form.form_tests_by (form.kind_fault c.kind c.count) (unnamed || (form.head_reserved_fault c || lines.reserved)) (form.head_range_fault c || lines.range)) }
-    ensures number { verdict_number result ≡ verdict_number (first (form.form_tests_by (form.kind_fault c.kind c.count) (unnamed || (form.head_reserved_fault c || lines.reserved)) (form.head_range_fault c || lines.range))) }
-{
-    let rules = rules_of(c.kind);
-    let range = refuse_if(
-        head_range_fault(c, rules) | lines.range,
-        Refusal::Range,
-        Verdict::Passed,
-    );
-    let reserved = refuse_if(
-        unnamed | (head_reserved_fault(c, rules) | lines.reserved),
-        Refusal::Reserved,
-        range,
-    );
-    refuse_if(kind_fault(c, rules), Refusal::Kind, reserved)
+impl RuledCase<'_> {
+    /// Refusals 3, 4 and 5 as `check_form` gives them, where it is known already what the lines break: those of the case are not
+    /// looked at.
+    pub fn check_form_by(&self, unnamed: bool, lines: Faults) -> Result<(), Refusal>
+        ensures verdict { result ≡ first (form.form_tests_by (form.kind_fault self.now.case.now.kind self.now.case.now.count) (unnamed || (form.head_reserved_fault self.now.case.now || lines.reserved)) (form.head_range_fault self.now.case.now || lines.range)) }
+        ensures number { verdict_number result ≡ verdict_number (first (form.form_tests_by (form.kind_fault self.now.case.now.kind self.now.case.now.count) (unnamed || (form.head_reserved_fault self.now.case.now || lines.reserved)) (form.head_range_fault self.now.case.now || lines.range))) }
+    {
+        refuse_if(kind_fault(self), Refusal::Kind)?;
+        refuse_if(
+            unnamed || head_reserved_fault(self) || lines.reserved,
+            Refusal::Reserved,
+        )?;
+        refuse_if(head_range_fault(self) || lines.range, Refusal::Range)
+    }
 }
 
-// Refusals 3, 4 and 5 of a case, read or built by hand, beside which a byte of its block that no field names may be other than zero:
-// the first that applies, or that none does.
+/// Refusals 3, 4 and 5 of a case, read or built by hand, beside which a byte of its block that no field names may be other than zero:
+/// the first that applies.
 #[tactic(auto, unfolding(crate::specs::Form::reserved_fault, crate::specs::Form::range_fault))]
-pub fn form_verdict(c: Case, unnamed: bool) -> Verdict
-    ensures verdict { result ≡ first (form.form_tests unnamed c) }
-    ensures number { verdict_number result ≡ verdict_number (first (form.form_tests unnamed c)) }
+pub fn check_form(case: &Case, unnamed: bool) -> Result<(), Refusal>
+    ensures verdict { result ≡ first (form.form_tests unnamed case.now) }
+    ensures number { verdict_number result ≡ verdict_number (first (form.form_tests unnamed case.now)) }
 {
-    form_verdict_by(c, unnamed, faults_of_lines(c))
+    let ruled = RuledCase::new(case);
+    ruled.check_form_by(unnamed, ruled.faults_of_lines())
 }

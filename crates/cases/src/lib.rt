@@ -6,17 +6,18 @@ mod flags;
 mod form;
 mod kinds;
 mod lines;
+mod ruled;
 
 use calendar::Date;
 use factors::Table;
 pub use flags::{gmp_flag, transfer_flag};
-pub use form::{form_verdict, form_verdict_by};
+pub use form::check_form;
 pub use kinds::rules_of;
-pub use lines::faults_of_line;
+pub use ruled::RuledCase;
 
-// One line of benefits: its pension date and its amounts in pence. The two amounts of Scheme Pays are debits, on the pension and on
-// the lump sum; the last three are a divorce debit, as at leaving.
-#[derive(Clone, Copy)]
+/// One line of benefits: its pension date and its amounts in pence. The two amounts of Scheme Pays are debits, on the pension and on
+/// the lump sum; the last three are a divorce debit, as at leaving.
+#[derive(Clone, Copy, Debug, Default, PartialEq, Eq)]
 pub struct Line {
     pub date: Date,
     pub pension: u64,
@@ -32,8 +33,9 @@ pub struct Line {
     pub debit_lump: u64,
 }
 
-// The fields of a block but its check.
-#[derive(Clone, Copy)]
+/// The fields of a block but its check. A case may be built by hand: nothing is known of its entries. Codes are numbers, not enums: one
+/// that is not listed has a refusal.
+#[derive(Clone, Copy, Debug, PartialEq, Eq)]
 pub struct Case {
     pub kind: u16,
     pub number: u32,
@@ -54,30 +56,31 @@ pub struct Case {
     pub lines: [Line; 4],
 }
 
-// What sets a kind of case apart.
-#[derive(Clone, Copy)]
+/// What sets a kind of case apart.
+#[derive(Clone, Copy, Debug, PartialEq, Eq)]
 pub struct Rules {
-    // The most lines that a case may have; it has at least one.
+    /// The most lines that a case may have; it has at least one.
     pub lines: u8,
-    // Whether each line is dated at its own pension age.
+    /// Whether each line is dated at its own pension age.
     pub dated: bool,
-    // Whether there may be a transfer in, and own contributions.
+    /// Whether there may be a transfer in, and own contributions.
     pub transfers: bool,
-    // Whether every member may have a lump sum, and debits on it.
+    /// Whether every member may have a lump sum, and debits on it.
     pub lump: bool,
-    // Whether there are Choice Optants: they alone may have a lump sum, and debits on it, where not every member may.
+    /// Whether there are Choice Optants: they alone may have a lump sum, and debits on it, where not every member may.
     pub choice_optants: bool,
+    /// Whether there may be a modification.
     pub modification: bool,
-    // Whether the sex is entered.
+    /// Whether the sex is entered.
     pub sex: bool,
-    // The pension age where the lines are not dated.
+    /// The pension age where the lines are not dated.
     pub pension_age: u16,
-    // The notes' table that holds its factors.
+    /// The notes' table that holds its factors.
     pub table: Table,
 }
 
-// Whether lines break a must-be-zero rule, and whether they break a range.
-#[derive(Clone, Copy)]
+/// Whether lines break a must-be-zero rule, and whether they break a range.
+#[derive(Clone, Copy, Debug, Default, PartialEq, Eq)]
 pub struct Faults {
     pub reserved: bool,
     pub range: bool,

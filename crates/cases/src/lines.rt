@@ -1,5 +1,5 @@
 // What refusals 4 and 5 ask of the lines of a case.
-ghost use Rattle.std.specs.Prelude.{map, ◌≡◌};
+ghost use Rattle.std.specs.Prelude.{map, length, take, ◌≡◌};
 ghost use Rattle.numbers.specs.Lists.{any};
 ghost use Rattle.cases.specs.Layout.{amounts};
 ghost use Rattle.cases.specs.Entries.{amount_in, any_line};
@@ -8,136 +8,129 @@ ghost use Rattle.cases.specs.Form.{filled, too_large, line_filled, lump_allowed,
 
 use crate::bits::all_bits;
 use crate::flags::choice_optant_flag;
-use crate::kinds::rules_of;
-use crate::{Case, Faults, Line, Rules};
+use crate::{Case, Faults, Line, RuledCase, Rules};
 
-// Whether one of some amounts is not zero, and whether one is above the limit.
-#[derive(Clone, Copy)]
-struct AmountTests {
-    pub filled: bool,
-    pub too_large: bool,
+// The most pence that an amount may have.
+const LIMIT: u64 = 1_000_000_000;
+
+pub(crate) fn too_large(pence: u64) -> bool
+    ensures { result ≡ too_large pence }
+{
+    LIMIT < pence
 }
 
-// The amounts of a line, in block order.
-fn amounts_of(l: Line) -> [u64; 11]
-    ensures { result ≡ map (λ a. amount_in a l) amounts }
+fn any_filled(amounts: &[u64]) -> bool
+    ensures { result ≡ any filled amounts.now }
 {
-    [
-        l.pension,
-        l.additional,
-        l.survivor,
-        l.dependant,
-        l.lump,
-        l.modification,
-        l.scheme_pays,
-        l.scheme_pays_lump,
-        l.debit_pension,
-        l.debit_survivor,
-        l.debit_lump,
-    ]
+    amounts.iter().any(|&pence| pence != 0)
 }
 
-pub(crate) fn too_large(x: u64) -> bool
-    ensures { result ≡ too_large x }
+#[tactic(auto, using(crate::proofs::AllBits::none_too_large))]
+fn any_too_large(amounts: &[u64]) -> bool
+    ensures { result ≡ any too_large amounts.now }
 {
-    1000000000 < x
+    LIMIT < all_bits(amounts) && amounts.iter().any(|&pence| too_large(pence))
 }
 
-fn test_amounts(n: &[u64]) -> AmountTests
-    ensures { (result.filled ≡ any filled n.now) × (result.too_large ≡ any too_large n.now) }
-{
-    let mut some_filled = false;
-    let mut some_too_large = false;
-    let mut i = n.len();
-    while 0 < i {
-        i -= 1;
-        some_filled = (n[i] != 0) | some_filled;
-        some_too_large = (1000000000 < n[i]) | some_too_large;
+impl Line {
+    // The amounts, in block order.
+    fn amounts(&self) -> [u64; 11]
+        ensures { result ≡ map (λ a. amount_in a self.now) amounts }
+    {
+        [
+            self.pension,
+            self.additional,
+            self.survivor,
+            self.dependant,
+            self.lump,
+            self.modification,
+            self.scheme_pays,
+            self.scheme_pays_lump,
+            self.debit_pension,
+            self.debit_survivor,
+            self.debit_lump,
+        ]
     }
-    AmountTests {
-        filled: some_filled,
-        too_large: some_too_large,
+
+    fn has_too_large(&self) -> bool
+        ensures { result ≡ any (λ a. too_large (amount_in a self.now)) amounts }
+    {
+        any_too_large(&self.amounts())
+    }
+
+    // Whether its date or an amount is not zero.
+    #[tactic(auto, unfolding(crate::specs::Form::line_filled))]
+    fn is_filled(&self) -> bool
+        ensures { result ≡ line_filled self.now }
+    {
+        !self.date.is_zero() || any_filled(&self.amounts())
     }
 }
 
-// Whether the member may have a lump sum.
-fn lump_allowed(rules: Rules, flags: u8) -> bool
-    ensures { result ≡ lump_allowed rules flags }
-{
-    rules.lump | (rules.choice_optants & choice_optant_flag(flags))
-}
-
-// Whether something that must be zero in line i by its kind, flags and place is not.
-#[tactic(auto, unfolding(crate::specs::Form::reserved_filled))]
-fn reserved_filled(rules: Rules, flags: u8, i: u8, l: Line) -> bool
-    ensures { result ≡ reserved_filled rules flags i l }
-{
-    (!rules.dated & !calendar::is_zero(l.date))
-        | (!lump_allowed(rules, flags)
-            & ((l.lump != 0) | (l.scheme_pays_lump != 0) | (l.debit_lump != 0)))
-        | (!rules.modification & (l.modification != 0))
-        | ((1 <= i) & ((l.additional != 0) | (l.dependant != 0)))
-}
-
-#[tactic(auto, using(crate::proofs::AllBits::low_bits))]
-fn some_too_large(l: Line) -> bool
-    ensures { result ≡ any (λ a. too_large (amount_in a l)) amounts }
-{
-    let amounts = amounts_of(l);
-    if all_bits(&amounts) <= 1000000000 {
-        return false;
+impl Rules {
+    // Whether the member may have a lump sum.
+    fn is_lump_allowed(&self, flags: u8) -> bool
+        ensures { result ≡ lump_allowed self.now flags }
+    {
+        self.lump || (self.choice_optants && choice_optant_flag(flags))
     }
-    let tests = test_amounts(&amounts);
-    tests.too_large
-}
 
-fn line_filled(l: Line) -> bool
-    ensures { result ≡ line_filled l }
-{
-    let amounts = amounts_of(l);
-    let tests = test_amounts(&amounts);
-    !calendar::is_zero(l.date) | tests.filled
-}
-
-// What line i of a case with `count` lines breaks. Past the count nearly every line is zeros and breaks nothing, so it is not tested
-// further.
-#[tactic(auto, using(crate::proofs::PastCount::range_within, crate::proofs::PastCount::range_past), unfolding(crate::specs::Form::line_reserved_fault))]
-pub fn faults_of_line(rules: Rules, flags: u8, count: u8, i: u8, l: Line) -> Faults
-    ensures { (result.reserved ≡ line_reserved_fault rules flags count i l) × (result.range ≡ line_range_fault rules count i l) }
-{
-    if i < count {
-        return Faults {
-            reserved: reserved_filled(rules, flags, i, l),
-            range: some_too_large(l) | (rules.dated & !calendar::is_real(l.date)),
-        };
+    // Whether something that must be zero in a line by its kind, flags and place, from 0, is not.
+    #[tactic(auto, unfolding(crate::specs::Form::reserved_filled))]
+    fn is_reserved_filled(&self, flags: u8, place: usize, line: &Line) -> bool
+        ensures { result ≡ reserved_filled self.now flags place line.now }
+    {
+        (!self.dated && !line.date.is_zero())
+            || (!self.is_lump_allowed(flags)
+                && (line.lump != 0 || line.scheme_pays_lump != 0 || line.debit_lump != 0))
+            || (!self.modification && line.modification != 0)
+            || (1 <= place && (line.additional != 0 || line.dependant != 0))
     }
-    if line_filled(l) {
-        Faults {
-            reserved: true,
-            range: some_too_large(l),
+
+    /// What the line at a place, from 0, of a case with these flags and this count of lines breaks. Past the count nearly every line is
+    /// zeros and breaks nothing, so it is not tested further. Flags and count, and not a `RuledCase`: any rules are answered for.
+    #[tactic(auto, using(crate::proofs::PastCount::range_within, crate::proofs::PastCount::range_past), unfolding(crate::specs::Form::line_reserved_fault))]
+    pub fn faults_of_line(&self, flags: u8, count: u8, place: usize, line: &Line) -> Faults
+        ensures reserved { result.reserved ≡ line_reserved_fault self.now flags count place line.now }
+        ensures range { result.range ≡ line_range_fault self.now count place line.now }
+    {
+        if place < usize::from(count) {
+            return Faults {
+                reserved: self.is_reserved_filled(flags, place, line),
+                range: line.has_too_large() || (self.dated && !line.date.is_real()),
+            };
         }
-    } else {
+        let filled = line.is_filled();
         Faults {
-            reserved: false,
-            range: false,
+            reserved: filled,
+            range: filled && line.has_too_large(),
         }
     }
 }
 
-pub(crate) fn faults_of_lines(c: Case) -> Faults
-    ensures { (result.reserved ≡ any_line (line_reserved_fault (rules_of c.kind) c.flags c.count) c) × (result.range ≡ any_line (line_range_fault (rules_of c.kind) c.count) c) }
-{
-    let rules = rules_of(c.kind);
-    let mut reserved = false;
-    let mut range = false;
-    let mut i: u8 = 0;
-    while i < 4 {
-        let k = i as usize;
-        let l = c.lines[k];
-        let faults = faults_of_line(rules, c.flags, c.count, i, l);
-        reserved = reserved | faults.reserved;
-        range = range | faults.range;
-        i += 1;
+impl Case {
+    /// The lines within the count, which in a case built by hand may be more than there are: then all of them.
+    pub fn counted_lines(&self) -> &[Line]
+        ensures counted { result.now ≡ take self.now.count self.now.lines }
+        ensures four { length self.now.lines ≡ 4 }
+    {
+        &self.lines[..usize::from(self.count).min(4)]
     }
-    Faults { reserved, range }
+}
+
+impl RuledCase<'_> {
+    // What the lines of the case break.
+    pub(crate) fn faults_of_lines(&self) -> Faults
+        ensures reserved { result.reserved ≡ any_line (line_reserved_fault (rules_of self.now.case.now.kind) self.now.case.now.flags self.now.case.now.count) self.now.case.now }
+        ensures range { result.range ≡ any_line (line_range_fault (rules_of self.now.case.now.kind) self.now.case.now.count) self.now.case.now }
+    {
+        let RuledCase { case, rules, .. } = self;
+        let mut faults = Faults::default();
+        for (place, line) in case.lines.iter().enumerate() {
+            let of_line = rules.faults_of_line(case.flags, case.count, place, line);
+            faults.reserved |= of_line.reserved;
+            faults.range |= of_line.range;
+        }
+        faults
+    }
 }

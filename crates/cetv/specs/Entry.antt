@@ -1,10 +1,8 @@
 -- What the C program gets.
 -- Assumes nothing.
-use Rattle.std.specs.Prelude.{ℕ}
-use Rattle.report.specs.declared.Formed.{Formed}
-use Rattle.report.specs.declared.Formed.TheVariants.{Line, Refused}
+use Rattle.std.specs.Prelude.{ℕ, Result}
+use Rattle.std.specs.Result.{result_unwrap_or}
 
 -- the length of the line formed, or 0 for refusal 15
-abbrev pub length_of : Formed → ℕ
-length_of (Line n) = n
-length_of (Refused r) = 0
+abbrev pub length_of : {Refusal : Type 0} → Result ℕ Refusal → ℕ
+length_of formed = result_unwrap_or formed 0

@@ -1,93 +1,81 @@
 // Refusals 6, 10, 11 and 17, which look at dates.
-ghost use Rattle.std.specs.Prelude.{◌≡◌, ◌<◌};
-ghost use Rattle.cases.specs.Entries.{any_line};
+ghost use Rattle.std.specs.Prelude.{◌≡◌, not, drop};
+ghost use Rattle.std.specs.List.{list_any, IsAllAdjacentAnswer};
+ghost use Rattle.calendar.specs.Dates.{before};
 ghost use Rattle.entitlement.specs.Entitlement as entitlement;
 
-use calendar::{Date, before};
-use cases::{Case, gmp_flag, rules_of};
+use calendar::{Date, before_birthday};
+use cases::{Case, Line, RuledCase, gmp_flag};
 
-// Whether a line after the first is not dated before the first.
-#[tactic(auto, unfolding(numbers::specs::Below::any_below, cases::specs::Entries::line_by))]
-fn misplaced_fault(c: Case) -> bool
-    ensures { result ≡ any_line (entitlement.misplaced c) c }
+// Whether a line after the first is dated on a day or after it.
+fn any_later_line_from(lines: &[Line], day: Date) -> bool
+    ensures { result ≡ list_any (λ l. not (before l.date day)) (drop 1 lines.now) }
 {
-    let a = c.lines[0];
-    let b = c.lines[1];
-    let d = c.lines[2];
-    let e = c.lines[3];
-    ((1 < c.count) & !before(b.date, a.date))
-        | ((2 < c.count) & !before(d.date, a.date))
-        | ((3 < c.count) & !before(e.date, a.date))
+    lines.iter().skip(1).any(|line| day <= line.date)
 }
 
-// What refusal 6 asks of dated lines. The branch, here and in order_fault, spares every other case the work.
-#[tactic(auto, unfolding(cases::specs::Entries::line_by))]
-fn dated_lines_fault(c: Case) -> bool
-    ensures { result ≡ entitlement.dated_lines_fault c }
+// Whether a line is dated on a day or before it.
+fn any_line_until(lines: &[Line], day: Date) -> bool
+    ensures { result ≡ list_any (λ l. not (before day l.date)) lines.now }
 {
-    let rules = rules_of(c.kind);
-    let first = c.lines[0];
-    if rules.dated {
-        calendar::before_birthday(first.date, c.birth, 65) | misplaced_fault(c)
-    } else {
-        false
-    }
+    lines.iter().any(|line| line.date <= day)
 }
 
-pub(crate) fn dates_fault(c: Case) -> bool
-    ensures { result ≡ entitlement.dates_fault c }
+// Whether each line after the second is dated before the one above it.
+fn later_lines_fall(lines: &[Line]) -> bool
+    ensures { IsAllAdjacentAnswer (λ above l b. b ≡ before l.date above.date) (drop 1 lines.now) result }
 {
-    !before(c.birth, c.leaving) | before(c.guarantee, c.leaving) | dated_lines_fault(c)
+    let Some((_, later)) = lines.split_first() else {
+        return true;
+    };
+    later.is_sorted_by(|above, line| line.date < above.date)
 }
 
-#[tactic(auto, unfolding(numbers::specs::Below::any_below, cases::specs::Entries::line_by))]
-pub(crate) fn order_fault(c: Case) -> bool
-    ensures { result ≡ entitlement.order_fault c }
+// What refusal 6 asks of dated lines.
+#[tactic(auto, using(crate::proofs::Lines::any_misplaced), unfolding(cases::specs::Entries::line_by))]
+fn dated_lines_fault(ruled: &RuledCase<'_>) -> bool
+    ensures { result ≡ entitlement.dated_lines_fault ruled.now.case.now }
 {
-    let rules = rules_of(c.kind);
-    let b = c.lines[1];
-    let d = c.lines[2];
-    let e = c.lines[3];
-    if rules.dated {
-        ((2 < c.count) & !before(d.date, b.date)) | ((3 < c.count) & !before(e.date, d.date))
-    } else {
-        false
-    }
+    let case = ruled.case;
+    let first = case.lines[0].date;
+    ruled.rules.dated
+        && (before_birthday(first, case.birth, 65)
+            || any_later_line_from(case.counted_lines(), first))
 }
 
-pub(crate) fn refer_fault(c: Case) -> bool
-    ensures { result ≡ entitlement.refer_fault c }
+pub(crate) fn dates_fault(ruled: &RuledCase<'_>) -> bool
+    ensures { result ≡ entitlement.dates_fault ruled.now.case.now }
 {
-    let start = Date {
+    let case = ruled.case;
+    case.leaving <= case.birth || case.guarantee < case.leaving || dated_lines_fault(ruled)
+}
+
+#[tactic(auto, using(crate::proofs::Lines::any_out_of_order))]
+pub(crate) fn order_fault(ruled: &RuledCase<'_>) -> bool
+    ensures { result ≡ entitlement.order_fault ruled.now.case.now }
+{
+    ruled.rules.dated && !later_lines_fall(ruled.case.counted_lines())
+}
+
+pub(crate) fn refer_fault(case: &Case) -> bool
+    ensures { result ≡ entitlement.refer_fault case.now }
+{
+    let new_state_pension = Date {
         year: 2016,
         month: 4,
         day: 6,
     };
-    gmp_flag(c.flags) & before(c.state_pension, start)
+    gmp_flag(case.flags) && case.state_pension < new_state_pension
 }
 
-// Whether a line is dated on or before the guarantee date.
-#[tactic(auto, unfolding(numbers::specs::Below::any_below, cases::specs::Entries::line_by))]
-fn reached_fault(c: Case) -> bool
-    ensures { result ≡ any_line (entitlement.reached c) c }
+#[tactic(auto, using(crate::proofs::Lines::any_reached))]
+pub(crate) fn age_fault(ruled: &RuledCase<'_>) -> bool
+    ensures { result ≡ entitlement.age_fault ruled.now.case.now }
 {
-    let a = c.lines[0];
-    let b = c.lines[1];
-    let d = c.lines[2];
-    let e = c.lines[3];
-    ((0 < c.count) & !before(c.guarantee, a.date))
-        | ((1 < c.count) & !before(c.guarantee, b.date))
-        | ((2 < c.count) & !before(c.guarantee, d.date))
-        | ((3 < c.count) & !before(c.guarantee, e.date))
-}
-
-pub(crate) fn age_fault(c: Case) -> bool
-    ensures { result ≡ entitlement.age_fault c }
-{
-    let rules = rules_of(c.kind);
-    if rules.dated {
-        reached_fault(c)
+    let case = ruled.case;
+    if ruled.rules.dated {
+        any_line_until(case.counted_lines(), case.guarantee)
     } else {
-        rules.pension_age <= calendar::age(c.birth, c.guarantee)
+        ruled.rules.pension_age <= calendar::age(case.birth, case.guarantee)
     }
 }

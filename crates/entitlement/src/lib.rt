@@ -4,4 +4,4 @@
 mod dates;
 mod stages;
 
-pub use stages::entitlement_verdict;
+pub use stages::check_entitlement;

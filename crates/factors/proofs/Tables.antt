@@ -1,13 +1,13 @@
 -- The tables' counts and ranges: one test that antt computes over a whole table, and what follows of every row found.
 -- Assumes nothing.
-use Rattle.std.proofs.Common.{ℕ, ◌-◌, ◌≤◌, ◌<◌, arith, Bool, true, false, cond, ◌&&◌, List, [], ◌≡◌, refl, ap, eqb, leb, ltb, length, get_or, leb-true, lt-ltb, le-leb, le-ltb}
+use Rattle.std.proofs.Common.{ℕ, ◌-◌, ◌≤◌, arith, Bool, true, false, ◌&&◌, if◌then◌else◌, List, [], slice_get, Option, Some, None, ◌≡◌, refl, sym, eqb, leb, length, get_or, leb-true, ltb, cond, ap, ◌<◌, le-leb}
 use Rattle.std.proofs.Math.Bool.{and-eq-true_iff}
-use borrow.Author.Tests.{lt-leb}
-use Rattle.numbers.specs.Lists.{every}
+use Rattle.std.proofs.lemmas.Option.{get_or_from_slice_get, slice_get-get_or, slice_get_past, slice_get_within}
+use Rattle.std.proofs.lemmas.Bool.{lt-leb, ltb-true, ltb-false}
+use Rattle.std.specs.Option.{option_map}
+use Rattle.std.specs.List.{list_all}
 use Rattle.numbers.proofs.Lists.{every_at}
 use Rattle.factors.specs.declared.Factors.{Factors}
-use Rattle.factors.specs.declared.Row.{Row}
-use Rattle.factors.specs.declared.Row.TheVariants.{Found, Absent}
 use Rattle.factors.specs.declared.Table.{Table}
 use Rattle.factors.specs.declared.Table.TheVariants.{Section1995, Section2008, Scheme2015, NoTable}
 use Rattle.factors.specs.Rows.{four_columns, two_columns, found, row_numbers, Small}
@@ -18,49 +18,70 @@ in_range n = leb 1 n && leb n 9999
 
 -- a row of so many numbers, each from 0.01 to 99.99
 abbrev row_fits : ℕ → List ℕ → Bool
-row_fits width row = eqb (length row) width && every in_range row
+row_fits width row = eqb (length row) width && list_all in_range row
 
 -- so many rows, each of so many numbers in range
 abbrev fits : ℕ → ℕ → List (List ℕ) → Bool
-fits rows width table = eqb (length table) rows && every (row_fits width) table
+fits rows width table = eqb (length table) rows && list_all (row_fits width) table
 
 -- a number of a table that fits, and 0 outside the table, is at most 9999
 in_table : (rows width : ℕ) (table : List (List ℕ)) → fits rows width table ≡ true → (i j : ℕ) → get_or (get_or table i []) j 0 ≤ 9999
 in_table rows width table fit =
-    every_at (row_fits width) table [] in_row (λ j. omega arith) ((and-eq-true_iff (eqb (length table) rows) (every (row_fits width) table)).0 fit).1
+    every_at (row_fits width) table [] in_row (λ j. omega arith) ((and-eq-true_iff (eqb (length table) rows) (list_all (row_fits width) table)).0 fit).1
   where
     at_most : (n : ℕ) → in_range n ≡ true → n ≤ 9999
     at_most n h = leb-true n 9999 ((and-eq-true_iff (leb 1 n) (leb n 9999)).0 h).1
 
     in_row : (row : List ℕ) → row_fits width row ≡ true → (j : ℕ) → get_or row j 0 ≤ 9999
-    in_row row h = every_at in_range row 0 at_most (omega arith) ((and-eq-true_iff (eqb (length row) width) (every in_range row)).0 h).1
+    in_row row h = every_at in_range row 0 at_most (omega arith) ((and-eq-true_iff (eqb (length row) width) (list_all in_range row)).0 h).1
 
-module _ (columns : List ℕ → Factors) where
-  -- what a table that fits finds is small, where a row's factors are numbers of the row or 0
-  found_small :
-      ((row : List ℕ) → ((j : ℕ) → get_or row j 0 ≤ 9999) → Small (columns row)) →
-      (first rows width : ℕ) (table : List (List ℕ)) → fits rows width table ≡ true → (key : ℕ) → Small (found (row_at columns first table key))
+-- what a table that fits finds is small, where a row's factors are numbers of the row or 0
+found_small :
+    (columns : List ℕ → Factors) → ((row : List ℕ) → ((j : ℕ) → get_or row j 0 ≤ 9999) → Small (columns row)) →
+    (first rows width : ℕ) (table : List (List ℕ)) → fits rows width table ≡ true → (key : ℕ) → Small (found (row_at columns first table key))
+unfolding row_at
+found_small columns small first rows width table fit key = by_key (leb first key)
+  where
+    by_row : (row : Option (List ℕ)) → row ≡ slice_get table (key - first) → Small (found (option_map columns row))
+    by_row None e = omega arith
+    by_row (Some row) e =
+        small row (λ j. rw (get_or_from_slice_get table (key - first) row [] (sym e)) at (in_table rows width table fit (key - first) j))
+
+    by_key : (within : Bool) → Small (found (option_map columns (if within then slice_get table (key - first) else None)))
+    by_key true = by_row (slice_get table (key - first)) refl
+    by_key false = omega arith
+
+-- a key within the table finds its row; one below the first, or past the last, none
+module _ (columns : List ℕ → Factors) (first : ℕ) (table : List (List ℕ)) (key : ℕ) where
+  pub row_within : {f : Factors} → first ≤ key → key - first < length table → f ≡ columns (get_or table (key - first) []) → Some f ≡ row_at columns first table key
   unfolding row_at
-  found_small small first rows width table fit key =
-      go (leb first key && ltb (key - first) (length table)) (small (get_or table (key - first) []) (in_table rows width table fit (key - first)))
+  row_within p q e = rw (le-leb first key p, slice_get-get_or table (key - first) [] q, e)
+
+  pub row_below : key < first → None ≡ row_at columns first table key
+  unfolding row_at
+  row_below p = rw (lt-leb first key p)
+
+  pub row_past : first ≤ key → length table ≤ key - first → None ≡ row_at columns first table key
+  unfolding row_at
+  row_past p q = rw (le-leb first key p, slice_get_past table (key - first) q)
+
+  -- so a row is found by its place in the table
+  pub row_by_place : row_at columns first table key ≡ cond (leb first key && ltb (key - first) (length table)) (Some (columns (get_or table (key - first) []))) None
+  unfolding row_at
+  row_by_place = by_key (leb first key)
     where
-      go : (b : Bool) {f : Factors} → Small f → Small (found (cond b (Found f) Absent))
-      go true s = s
-      go false s = omega arith
+      by_place :
+          (row : Option (List ℕ)) (within : Bool) → slice_get table (key - first) ≡ row → ltb (key - first) (length table) ≡ within →
+          option_map columns row ≡ cond within (Some (columns (get_or table (key - first) []))) None
+      by_place None false e h = refl
+      by_place None true e h = cc (e, slice_get-get_or table (key - first) [] (ltb-true (key - first) (length table) h))
+      by_place (Some row) true e h = rw (get_or_from_slice_get table (key - first) row [] e)
+      by_place (Some row) false e h = absurd (omega (arith, slice_get_within table (key - first) row e, ltb-false (key - first) (length table) h))
 
-  -- a key within the table finds its row; one below the first, or past the last, none
-  module _ (first : ℕ) (table : List (List ℕ)) (key : ℕ) where
-    pub row_within : {f : Factors} → first ≤ key → key - first < length table → f ≡ columns (get_or table (key - first) []) → Found f ≡ row_at columns first table key
-    unfolding row_at
-    row_within p q e = rw (le-leb first key p, lt-ltb (key - first) (length table) q, e)
-
-    pub row_below : key < first → Absent ≡ row_at columns first table key
-    unfolding row_at
-    row_below p = rw (lt-leb first key p)
-
-    pub row_past : first ≤ key → length table ≤ key - first → Absent ≡ row_at columns first table key
-    unfolding row_at
-    row_past p q = rw (le-leb first key p, le-ltb (key - first) (length table) q)
+      by_key :
+          (within : Bool) → option_map columns (if within then slice_get table (key - first) else None) ≡ cond (within && ltb (key - first) (length table)) (Some (columns (get_or table (key - first) []))) None
+      by_key true = by_place (slice_get table (key - first)) (ltb (key - first) (length table)) refl refl
+      by_key false = refl
 
 small_four : (row : List ℕ) → ((j : ℕ) → get_or row j 0 ≤ 9999) → Small (four_columns row)
 small_four row at = omega (arith, at 0, at 1, at 2, at 3)
@@ -77,5 +98,5 @@ small_row Scheme2015 age ahead = found_small two_columns small_two 1 50 2 scheme
 small_row NoTable age ahead = omega arith
 
 -- rows that are the same are so in numbers
-pub and_numbers : {r s : Row} → r ≡ s → (r ≡ s) × (row_numbers r ≡ row_numbers s)
+pub and_numbers : {r s : Option Factors} → r ≡ s → (r ≡ s) × (row_numbers r ≡ row_numbers s)
 and_numbers e = (e, ap row_numbers e)

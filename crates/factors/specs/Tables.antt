@@ -1,9 +1,8 @@
 -- The factor tables of the notes, as lists of rows in hundredths, and the row that a key finds.
 -- Assumes nothing.
-use Rattle.std.specs.Prelude.{ℕ, ◌-◌, cond, ◌&&◌, List, [], ◌∷◌, leb, ltb, length, get_or}
+use Rattle.std.specs.Prelude.{ℕ, ◌-◌, leb, if◌then◌else◌, List, [], ◌∷◌, slice_get, Option, None}
+use Rattle.std.specs.Option.{option_map}
 use Rattle.factors.specs.declared.Factors.{Factors}
-use Rattle.factors.specs.declared.Row.{Row}
-use Rattle.factors.specs.declared.Row.TheVariants.{Found, Absent}
 use Rattle.factors.specs.declared.Table.{Table}
 use Rattle.factors.specs.declared.Table.TheVariants.{Section1995, Section2008, Scheme2015, NoTable}
 use Rattle.factors.specs.Rows.{four_columns, two_columns}
@@ -158,15 +157,18 @@ scheme2015_table =
     (564 ∷ 80 ∷ []) ∷
     (553 ∷ 75 ∷ []) ∷ []
 
--- What a key finds in a table whose first row is for the key `first`; `columns` says which factor each column is. There is no row
--- below the first nor past the last.
-unfoldable pub row_at : (List ℕ → Factors) → ℕ → List (List ℕ) → ℕ → Row
-row_at columns first table key =
-    cond (leb first key && ltb (key - first) (length table)) (Found (columns (get_or table (key - first) []))) Absent
+-- The row for a key of a table whose first row is for the key `first`, and each next row for the next key. There is none below the
+-- first nor past the last.
+abbrev pub row_for : ℕ → List (List ℕ) → ℕ → Option (List ℕ)
+row_for first table key = if leb first key then slice_get table (key - first) else None
+
+-- the factors of that row; `columns` says which factor each column is
+unfoldable pub row_at : (List ℕ → Factors) → ℕ → List (List ℕ) → ℕ → Option Factors
+row_at columns first table key = option_map columns (row_for first table key)
 
 -- the row of a table, for an age or for years ahead, whichever the table goes by
-unfoldable pub row_in : Table → ℕ → ℕ → Row
+unfoldable pub row_in : Table → ℕ → ℕ → Option Factors
 row_in Section1995 age ahead = row_at four_columns 22 section1995_table age
 row_in Section2008 age ahead = row_at four_columns 18 section2008_table age
 row_in Scheme2015 age ahead = row_at two_columns 1 scheme2015_table ahead
-row_in NoTable age ahead = Absent
+row_in NoTable age ahead = None

@@ -3,10 +3,10 @@
 
 ghost use Rattle.std.specs.Prelude.{◌≡◌};
 ghost use Rattle.factors.specs.Rows.{four_columns, two_columns, row_numbers};
-ghost use Rattle.factors.specs.Tables.{section1995_table, section2008_table, scheme2015_table, row_at, row_in};
+ghost use Rattle.factors.specs.Tables.{section1995_table, section2008_table, scheme2015_table, row_for, row_in};
 
-// The factors of a line, in hundredths; zero where a kind has none.
-#[derive(Clone, Copy)]
+/// The factors of a line, in hundredths; zero where a kind has none.
+#[derive(Clone, Copy, Debug, Default, PartialEq, Eq)]
 pub struct Factors {
     pub pension: u64,
     pub lump: u64,
@@ -14,25 +14,24 @@ pub struct Factors {
     pub deduction: u64,
 }
 
-#[derive(Clone, Copy)]
-pub enum Row {
-    Found(Factors),
-    Absent,
-}
-
-// The notes' tables. A kind that is not listed has none.
-#[derive(Clone, Copy)]
+/// The notes' tables.
+#[derive(Clone, Copy, Debug, PartialEq, Eq)]
 pub enum Table {
+    /// By age: the 1995 section with pension age 60.
     Section1995,
+    /// By age: the 2008 section.
     Section2008,
+    /// By years ahead: the 2015 scheme.
     Scheme2015,
+    /// A table with no row, for a kind that is not listed.
+    // With it every number has rules, here and in the definitions, and no test takes an `Option` apart.
     NoTable,
 }
 
 // Table TV1 of 001 by age, from 22: A pension, B lump sum, C survivor, E deduction.
 // 001's text names 20 as the first age, its table 22: the table decides. TV2 repeats these figures, as the factors are
 // unisex, and is not a second table.
-const SECTION_1995: [[u16; 4]; 38] = [
+static SECTION_1995: [[u16; 4]; 38] = [
     [893, 41, 84, 518],
     [913, 42, 86, 532],
     [933, 43, 88, 546],
@@ -75,7 +74,7 @@ const SECTION_1995: [[u16; 4]; 38] = [
 
 // Tables TV3 and TV4 of 001 by age, from 18: A pension, B lump sum, C survivor, then the deduction. That is factor E of TV3 for men;
 // of TV4 for women it is factor E below 60 and F from 60. TV4 repeats the figures of TV3, and is not a second table.
-const SECTION_2008: [[u16; 4]; 47] = [
+static SECTION_2008: [[u16; 4]; 47] = [
     [650, 33, 76, 465],
     [664, 34, 80, 478],
     [678, 35, 82, 491],
@@ -126,7 +125,7 @@ const SECTION_2008: [[u16; 4]; 47] = [
 ];
 
 // Table TV1 of 003 by years ahead, from 1: A pension, B survivor.
-const SCHEME_2015: [[u16; 2]; 50] = [
+static SCHEME_2015: [[u16; 2]; 50] = [
     [1708, 160],
     [1665, 160],
     [1624, 160],
@@ -179,90 +178,53 @@ const SCHEME_2015: [[u16; 2]; 50] = [
     [553, 75],
 ];
 
-// The factors of a row of 001: A pension, B lump sum, C survivor, and last the deduction.
+// The factors of a row of four columns: A pension, B lump sum, C survivor, and last the deduction. This function and the next go by
+// what the columns mean and not by their number, so a name each.
 fn four_columns(row: [u16; 4]) -> Factors
     ensures { result ≡ four_columns row }
 {
+    let [pension, lump, survivor, deduction] = row.map(u64::from);
     Factors {
-        pension: row[0] as u64,
-        lump: row[1] as u64,
-        survivor: row[2] as u64,
-        deduction: row[3] as u64,
+        pension,
+        lump,
+        survivor,
+        deduction,
     }
 }
 
-// The factors of a row of 003: A pension, B survivor.
+// The factors of a row of two columns: A pension, B survivor.
 fn two_columns(row: [u16; 2]) -> Factors
     ensures { result ≡ two_columns row }
 {
+    let [pension, survivor] = row.map(u64::from);
     Factors {
-        pension: row[0] as u64,
-        lump: 0,
-        survivor: row[1] as u64,
-        deduction: 0,
+        pension,
+        survivor,
+        ..Factors::default()
     }
 }
 
-// What a key finds in a table of four columns whose first row is for the key `first`.
-#[tactic(auto, unfolding(crate::specs::Tables::row_at))]
-fn row_of_four(table: &[[u16; 4]], first: u32, key: u32) -> Row
-    ensures { result ≡ row_at four_columns first table.now key }
+// The row for a key of a table whose first row is for the key `first`, and each next row for the next key.
+fn row_for<const N: usize>(table: &[[u16; N]], first: u32, key: u32) -> Option<[u16; N]>
+    ensures { result ≡ row_for first table.now key }
 {
-    if first <= key {
-        let i = (key - first) as usize;
-        if i < table.len() {
-            return Row::Found(four_columns(table[i]));
+    // `as` loses nothing: a usize has 64 bits, and there is no `From`.
+    table.get(key.checked_sub(first)? as usize).copied()
+}
+
+impl Table {
+    /// The factors for an age in whole years or for a number of years ahead, whichever the table goes by; `None` where the table has
+    /// no such row. Both keys, though a table goes by one: else each caller would have to know which.
+    #[tactic(auto, unfolding(crate::specs::Tables::row_in, crate::specs::Tables::row_at, crate::specs::Tables::section1995_table, crate::specs::Tables::section2008_table, crate::specs::Tables::scheme2015_table))]
+    pub fn row(self, age: u16, ahead: u32) -> Option<Factors>
+        ensures row { result ≡ row_in self age ahead }
+        ensures numbers { row_numbers result ≡ row_numbers (row_in self age ahead) }
+    {
+        match self {
+            Table::Section1995 => row_for(&SECTION_1995, 22, u32::from(age)).map(four_columns),
+            Table::Section2008 => row_for(&SECTION_2008, 18, u32::from(age)).map(four_columns),
+            Table::Scheme2015 => row_for(&SCHEME_2015, 1, ahead).map(two_columns),
+            Table::NoTable => None,
         }
-    }
-    Row::Absent
-}
-
-// The same in a table of two columns. With four, half of them zero, there would be twice as much to copy.
-#[tactic(auto, unfolding(crate::specs::Tables::row_at))]
-fn row_of_two(table: &[[u16; 2]], first: u32, key: u32) -> Row
-    ensures { result ≡ row_at two_columns first table.now key }
-{
-    if first <= key {
-        let i = (key - first) as usize;
-        if i < table.len() {
-            return Row::Found(two_columns(table[i]));
-        }
-    }
-    Row::Absent
-}
-
-// Each use of a table's name writes the table out, in the code and in its proof: one function to a table.
-#[tactic(auto, unfolding(crate::specs::Tables::section1995_table))]
-fn section_1995_row(age: u16) -> Row
-    ensures { result ≡ row_at four_columns 22 section1995_table age }
-{
-    row_of_four(&SECTION_1995, 22, age as u32)
-}
-
-#[tactic(auto, unfolding(crate::specs::Tables::section2008_table))]
-fn section_2008_row(age: u16) -> Row
-    ensures { result ≡ row_at four_columns 18 section2008_table age }
-{
-    row_of_four(&SECTION_2008, 18, age as u32)
-}
-
-#[tactic(auto, unfolding(crate::specs::Tables::scheme2015_table))]
-fn scheme_2015_row(ahead: u32) -> Row
-    ensures { result ≡ row_at two_columns 1 scheme2015_table ahead }
-{
-    row_of_two(&SCHEME_2015, 1, ahead)
-}
-
-// The row of a table, for an age or for years ahead, whichever the table goes by.
-#[tactic(auto, unfolding(crate::specs::Tables::row_in))]
-pub fn row_in(table: Table, age: u16, ahead: u32) -> Row
-    ensures row { result ≡ row_in table age ahead }
-    ensures numbers { row_numbers result ≡ row_numbers (row_in table age ahead) }
-{
-    match table {
-        Table::Section1995 => section_1995_row(age),
-        Table::Section2008 => section_2008_row(age),
-        Table::Scheme2015 => scheme_2015_row(ahead),
-        Table::NoTable => Row::Absent,
     }
 }

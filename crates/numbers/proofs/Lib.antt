@@ -4,3 +4,4 @@ pub mod Below
 pub mod Threshold
 pub mod Tests
 pub mod Lists
+pub mod Counted

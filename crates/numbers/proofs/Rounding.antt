@@ -1,6 +1,6 @@
 -- The laws of rounding: it keeps the order, and what it gives is never further off than half a unit.
 -- Assumes nothing.
-use Rattle.std.proofs.Common.{ℕ, ◌+◌, ◌*◌, ◌/◌, ◌%◌, ◌≤◌, ◌<◌, div-mul-le_self, le-div_iff_mul-le, le_trans, mul_assoc, add-mul, one-mul, div-add-mod', mul-le-mul_left, arith, lit<, ◌≡◌}
+use Rattle.std.proofs.Common.{ℕ, ◌+◌, ◌*◌, ◌/◌, ◌%◌, ◌≤◌, ◌<◌, div-mul-le_self, le-div_iff_mul-le, le_trans, mul-le-mul_left, mul_assoc, add-mul, one-mul, div-add-mod', arith, lit<, ◌≡◌}
 use Rattle.std.proofs.Math.Nat.{div-zero, lt-div-mul-add, mul-div-mul_right, div-eq_of_lt-le}
 use Rattle.numbers.specs.Rounding.{nearest, Within}
 

@@ -1,17 +1,13 @@
 -- What tests that are joined by `and` or `or` tell of each. The kit has more: Rattle.std.proofs.Math.Bool.
 -- Assumes nothing.
-use Rattle.std.proofs.Common.{Bool, true, false, ◌&&◌, ◌||◌, true≢false, List, [], ◌∷◌, ◌≡◌, refl}
+use Rattle.std.proofs.Common.{Bool, true, false, ◌&&◌, ◌||◌, List, [], ◌∷◌, ◌≡◌}
 use Rattle.std.proofs.Math.Bool.{false≢true}
+pub use Rattle.std.proofs.lemmas.Bool.{or_parts as or_false}
 
 -- where the whole does not hold but the first test does, the second does not
 pub and_right_false : (s t : Bool) → s ≡ true → (s && t) ≡ false → t ≡ false
 and_right_false true t p e = e
 and_right_false false t p e = absurd (false≢true p)
-
--- of tests joined by `or` none holds where the whole does not
-pub or_false : (s t : Bool) → (s || t) ≡ false → (s ≡ false) × (t ≡ false)
-or_false true t e = absurd (true≢false e)
-or_false false t e = (refl, e)
 
 -- a test, and those after it in their order
 abbrev pub or_from : Bool → List Bool → Bool

@@ -1,10 +1,8 @@
--- Names with spaces after them; how long names and numbers are, by one test over all refusals.
+-- How long names and numbers are, by one test over all refusals.
 -- Assumes nothing.
-use Rattle.std.proofs.Common.{ℕ, ◌-◌, ◌≤◌, ◌<◌, false, not, List, ◌≡◌, refl, arith, eqb, leb, ltb, length, take, drop, length-append, leb-true, ltb-true}
-use Rattle.std.proofs.Math.Nat.{sub-zero}
-use Rattle.std.proofs.Math.Seq.{take-append_seam}
+use Rattle.std.proofs.Common.{◌≤◌, ◌<◌, ◌≡◌, false, not, refl, eqb, leb, ltb, length, leb-true, ltb-true}
 use borrow.Author.Tests.{not-true}
-use Rattle.refusals.specs.Refusals.{number_of, name_of, in_sixteen, Labelled}
+use Rattle.refusals.specs.Refusals.{number_of, name_of}
 use Rattle.refusals.specs.declared.Refusal.{Refusal}
 use Rattle.refusals.proofs.Every.{each}
 
@@ -15,18 +13,6 @@ name_short r = leb-true _ _ (each (λ r. leb (length (name_of r)) 16) refl r)
 pub number_short : (r : Refusal) → number_of r < 100
 number_short r = ltb-true _ _ (each (λ r. ltb (number_of r) 100) refl r)
 
--- no number is 0
+-- no number is 0, which is that of a verdict where none applies
 pub numbered : (r : Refusal) → eqb (number_of r) 0 ≡ false
 numbered r = not-true _ (each (λ r. not (eqb (number_of r) 0)) refl r)
-
--- the label that the code has for a refusal is that of any refusal equal to it
-pub labelled : {r k : Refusal} → r ≡ k → Labelled r (number_of k) (in_sixteen (name_of k)) (length (name_of k))
-labelled e = record { number = rw e; name = rw e; long = rw e }
-
--- a name with spaces after it, and its length
-module _ (r : Refusal) {m : ℕ} {bytes : List ℕ} {n : ℕ} (held : Labelled r m bytes n) where
-  pub within : n ≤ length bytes
-  within = rw (held.name, held.long) (simp length-append (omega arith))
-
-  pub its_name : take (n - 0) (drop 0 bytes) ≡ name_of r
-  its_name = rw (held.name, held.long, sub-zero (length (name_of r))) (take-append_seam (name_of r) _)

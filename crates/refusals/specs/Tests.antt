@@ -1,10 +1,8 @@
 -- Tests in their order, and the first that applies.
 -- Assumes nothing.
-use Rattle.std.specs.Prelude.{ℕ, Bool, false, cond, List, [], ◌∷◌, ◌≡◌}
+use Rattle.std.specs.Prelude.{ℕ, Bool, false, cond, List, [], ◌∷◌, Result, Ok, Err, ◌≡◌}
 use Rattle.refusals.specs.Refusals.{number_of}
 use Rattle.refusals.specs.declared.Refusal.{Refusal}
-use Rattle.refusals.specs.declared.Verdict.{Verdict}
-use Rattle.refusals.specs.declared.Verdict.TheVariants.{Passed, Refused}
 
 -- a refusal, and whether it applies
 pub record Test : Type 0 where
@@ -15,15 +13,19 @@ infix 4 ◌gives◌
 abbrev pub ◌gives◌ : Bool → Refusal → Test
 ◌gives◌ b r = record { applies = b; refusal = r }
 
--- the first that applies is given
+-- what tests in their order find: the refusal of the first that applies, or that none does
+abbrev pub Verdict : Type 0
+Verdict = Result Unit Refusal
+
+-- the first that applies is given; std's find and map would say the same in two steps
 abbrev pub first : List Test → Verdict
-first [] = Passed
-first (t ∷ ts) = cond t.applies (Refused t.refusal) (first ts)
+first [] = Ok tt
+first (t ∷ ts) = cond t.applies (Err t.refusal) (first ts)
 
 -- what the earlier tests found, else what the later ones did
 abbrev pub or_else : Verdict → Verdict → Verdict
-or_else Passed w = w
-or_else (Refused r) w = Refused r
+or_else (Ok u) w = w
+or_else (Err r) w = Err r
 
 -- no test of a list applies
 abbrev pub NoneOf : List Test → Type 0
@@ -32,5 +34,5 @@ NoneOf (t ∷ ts) = (t.applies ≡ false) × NoneOf ts
 
 -- a verdict's number: that of its refusal, and 0 where none applies
 abbrev pub verdict_number : Verdict → ℕ
-verdict_number Passed = 0
-verdict_number (Refused r) = number_of r
+verdict_number (Ok u) = 0
+verdict_number (Err r) = number_of r

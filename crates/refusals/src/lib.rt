@@ -1,13 +1,13 @@
-// The refusals, their numbers and names, and the first of some tests that applies.
+// The refusals, their numbers and names, and tests in their order.
 #![tactic(auto)]
 
 mod names;
 mod tests;
 
-pub use names::{put_name, refusal_number};
-pub use tests::{or_else, refuse_if};
+pub use tests::refuse_if;
 
-#[derive(Clone, Copy)]
+/// Why nothing is paid, or no line is formed. Numbers, names and order are those of document 01 and the change requests.
+#[derive(Clone, Copy, Debug, PartialEq, Eq)]
 pub enum Refusal {
     Length,
     Check,
@@ -26,11 +26,4 @@ pub enum Refusal {
     Buffer,
     Award,
     Order,
-}
-
-// What tests in their order find: the first refusal that applies, or that none does.
-#[derive(Clone, Copy)]
-pub enum Verdict {
-    Passed,
-    Refused(Refusal),
 }

@@ -1,8 +1,7 @@
 -- The report of three blocks: a payment of kind 1, one of kind 2, and a block that is refused.
 -- Assumes nothing.
-use Rattle.std.proofs.Common.{◌≡◌, refl}
+use Rattle.std.proofs.Common.{◌≡◌, refl, codes}
 use Rattle.buffers.specs.Decimal.{last_digits, digits_within, decimal}
-use Rattle.buffers.specs.Text.{ascii}
 use Rattle.refusals.specs.declared.Refusal.TheVariants.{Kind}
 use Rattle.answers.specs.declared.Answer.{Answer}
 use Rattle.answers.specs.declared.Outcome.TheVariants.{Paid, Refused}
@@ -45,22 +44,22 @@ second =
 abbrev third : Answer
 third = record { number = 0; outcome = Refused Kind }
 
-pub first_block : line_of 1 first ≡ ascii "1 1 pay 136868.93 pension 117921.6000 lump 14364.0000 survivor 4817.9250 deduct 234.6000 underpin 0.00 avc 0.00\n"
+pub first_block : line_of 1 first ≡ codes "1 1 pay 136868.93 pension 117921.6000 lump 14364.0000 survivor 4817.9250 deduct 234.6000 underpin 0.00 avc 0.00\n"
 unfolding line_of paid_text decimal digits_within last_digits
 first_block = refl
 
-pub second_block : line_of 2 second ≡ ascii "2 2 pay 25900.81 pension 24704.5500 lump 0.0000 survivor 1196.2552 deduct 0.0000 underpin 0.00 avc 0.00\n"
+pub second_block : line_of 2 second ≡ codes "2 2 pay 25900.81 pension 24704.5500 lump 0.0000 survivor 1196.2552 deduct 0.0000 underpin 0.00 avc 0.00\n"
 unfolding line_of paid_text decimal digits_within last_digits
 second_block = refl
 
-pub third_block : line_of 3 third ≡ ascii "3 0 refused 3 kind\n"
+pub third_block : line_of 3 third ≡ codes "3 0 refused 3 kind\n"
 unfolding line_of refused_text decimal digits_within
 third_block = refl
 
-pub end : end_line 3 2 ≡ ascii "end 3 blocks 2 paid\n"
+pub end : end_line 3 2 ≡ codes "end 3 blocks 2 paid\n"
 unfolding end_line decimal digits_within
 end = refl
 
-pub end_of_nothing : end_line 0 0 ≡ ascii "end 0 blocks 0 paid\n"
+pub end_of_nothing : end_line 0 0 ≡ codes "end 0 blocks 0 paid\n"
 unfolding end_line decimal digits_within
 end_of_nothing = refl

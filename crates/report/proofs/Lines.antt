@@ -1,9 +1,8 @@
 -- No line is longer than 256 bytes.
 -- Assumes nothing.
-use Rattle.std.proofs.Common.{ℕ, ◌+◌, ◌*◌, ◌/◌, ◌^◌, ◌≤◌, ◌<◌, List, ◌++◌, ◌≡◌, div-lt_iff_lt-mul, arith, lit<, lit≤, length, length-append}
+use Rattle.std.proofs.Common.{ℕ, ◌+◌, ◌*◌, ◌/◌, ◌^◌, ◌≤◌, ◌<◌, div-lt_iff_lt-mul, arith, lit<, lit≤, length, length-append}
 use Rattle.std.proofs.Math.Nat.{one-le-pow}
 use Rattle.buffers.specs.Decimal.{decimal}
-use Rattle.buffers.specs.Text.{ascii, WrittenIfRoom}
 use Rattle.buffers.proofs.Decimal.{decimal_short, length_digits}
 use Rattle.refusals.proofs.Naming.{name_short, number_short}
 use Rattle.refusals.specs.Refusals.{number_of}
@@ -12,9 +11,7 @@ use Rattle.answers.specs.declared.Answer.{Answer}
 use Rattle.answers.specs.declared.Items.{Items}
 use Rattle.answers.specs.declared.Outcome.{Outcome}
 use Rattle.answers.specs.declared.Outcome.TheVariants.{Paid, Refused}
-use Rattle.report.specs.declared.Formed.TheVariants.{Line}
 use Rattle.report.specs.Lines.{paid_text, refused_text, outcome_text, line_of, end_line}
-use Rattle.report.proofs.Forming.{Promise, formed}
 
 -- items of 64 bits each
 pub record Sized (i : Items) : Type 0 where
@@ -69,15 +66,6 @@ unfolding line_of
 line_short place a p n s =
     let o = outcome_short a.outcome s in
     simp length-append (omega (arith, decimal_short 10 place (lit≤ tt) (omega arith), decimal_short 10 a.number (lit≤ tt) (omega arith)))
-
--- such a line, written with an outcome that is known, is formed
-pub line_formed : {b after : List ℕ} {e place : ℕ} {a : Answer} {o : Outcome} → 256 ≤ length b → place < 2 ^ 32 → a.number < 2 ^ 32
-    → a.outcome ≡ o → SizedOutcome o → WrittenIfRoom b 0 (decimal place ++ ascii " " ++ decimal a.number ++ outcome_text o) after e
-    → Promise b (line_of place a) after (Line e)
-unfolding line_of
-line_formed {place = place} {a = a} room p n known sized w =
-    let short = line_short place a p n (rw known sized) in
-    formed room ((rw (← known) at w) (omega arith))
 
 -- the end line of any counts of 32 bits
 pub end_short : (blocks paid : ℕ) → blocks < 2 ^ 32 → paid < 2 ^ 32 → length (end_line blocks paid) ≤ 38

@@ -5,11 +5,3 @@ mod line;
 mod parts;
 
 pub use line::{form_end, form_header, form_line};
-use refusals::Refusal;
-
-// What forming a line answers: the line's length, or the refusal.
-#[derive(Clone, Copy)]
-pub enum Formed {
-    Line(usize),
-    Refused(Refusal),
-}

@@ -1,61 +1,63 @@
 // The header, a block's line and the end line, each formed at the start of a lent buffer, whose later bytes keep their contents.
-// Where fewer than 256 bytes are lent no byte changes.
+// Where fewer than 256 bytes are lent no byte changes, and the answer is refusal 15. The first lines of the three functions and the
+// last are the same: a function round them would take a closure over a text that it lends on, and be no shorter.
 ghost use Rattle.std.specs.Prelude.{◌≡◌, length};
 ghost use Rattle.report.specs.Lines.{header, line_of, end_line};
 ghost use Rattle.report.specs.Forming.{formed_as, formed_numbers, buffer_with};
 
-use crate::Formed;
-use crate::parts::{put_items, put_refusal};
-use answers::{Answer, Outcome};
-use buffers::{put, put_decimal};
-use refusals::Refusal;
+use crate::parts::put_outcome;
+use answers::Answer;
+use buffers::Text;
+use refusals::{Refusal, refuse_if};
 
 // The fewest bytes in which a line is formed.
 const LEAST: usize = 256;
 
-// Forms the line of a block from its place and the answer to it.
-pub fn form_line(out: &mut [u8], place: u32, answer: Answer) -> Formed
+// The answer by value: behind a reference the check knows no range of its amounts, by which the line has room.
+/// Forms the line of a block from its place in the file, counted from 1, and the answer to it; the answer is the line's length in
+/// bytes.
+#[tactic(auto, unfolding(crate::specs::Forming::formed_as, crate::specs::Forming::buffer_with))]
+pub fn form_line(out: &mut [u8], place: u32, answer: Answer) -> Result<usize, Refusal>
     ensures answer { result ≡ formed_as (length out.old) (line_of place answer) }
     ensures numbers { formed_numbers result ≡ formed_numbers (formed_as (length out.old) (line_of place answer)) }
     ensures bytes { out.new ≡ buffer_with out.old (line_of place answer) }
 {
-    if out.len() < LEAST {
-        return Formed::Refused(Refusal::Buffer);
-    }
-    let a = put_decimal(out, 0, place as u64);
-    let b = put(out, a, b" ");
-    let d = put_decimal(out, b, answer.number as u64);
-    let outcome = answer.outcome;
-    match outcome {
-        Outcome::Paid(items) => Formed::Line(put_items(out, d, items)),
-        Outcome::Refused(why) => Formed::Line(put_refusal(out, d, why)),
-    }
+    refuse_if(out.len() < LEAST, Refusal::Buffer)?;
+    let mut line = Text::new(out, 0);
+    line.put_decimal(u64::from(place));
+    line.put(b" ");
+    line.put_decimal(u64::from(answer.number));
+    put_outcome(&mut line, &answer.outcome);
+    Ok(line.length())
 }
 
-// Forms the report's first line.
-pub fn form_header(out: &mut [u8]) -> Formed
+/// Forms the report's first line; the answer is its length in bytes.
+#[tactic(auto, unfolding(crate::specs::Forming::formed_as, crate::specs::Forming::buffer_with))]
+pub fn form_header(out: &mut [u8]) -> Result<usize, Refusal>
     ensures answer { result ≡ formed_as (length out.old) header }
     ensures numbers { formed_numbers result ≡ formed_numbers (formed_as (length out.old) header) }
     ensures bytes { out.new ≡ buffer_with out.old header }
 {
-    if out.len() < LEAST {
-        return Formed::Refused(Refusal::Buffer);
-    }
-    Formed::Line(put(out, 0, b"transfer values\n"))
+    refuse_if(out.len() < LEAST, Refusal::Buffer)?;
+    let mut line = Text::new(out, 0);
+    line.put(b"transfer values\n");
+    Ok(line.length())
 }
 
-// Forms the report's last line: how many blocks were read, and how many of them are paid.
-pub fn form_end(out: &mut [u8], blocks: u32, paid: u32) -> Formed
+/// Forms the report's last line, of how many blocks were read and how many of them are paid; the answer is its length in bytes. Two
+/// numbers: what counts them belongs to a crate above.
+#[tactic(auto, unfolding(crate::specs::Forming::formed_as, crate::specs::Forming::buffer_with))]
+pub fn form_end(out: &mut [u8], blocks: u32, paid: u32) -> Result<usize, Refusal>
     ensures answer { result ≡ formed_as (length out.old) (end_line blocks paid) }
     ensures numbers { formed_numbers result ≡ formed_numbers (formed_as (length out.old) (end_line blocks paid)) }
     ensures bytes { out.new ≡ buffer_with out.old (end_line blocks paid) }
 {
-    if out.len() < LEAST {
-        return Formed::Refused(Refusal::Buffer);
-    }
-    let a = put(out, 0, b"end ");
-    let b = put_decimal(out, a, blocks as u64);
-    let d = put(out, b, b" blocks ");
-    let e = put_decimal(out, d, paid as u64);
-    Formed::Line(put(out, e, b" paid\n"))
+    refuse_if(out.len() < LEAST, Refusal::Buffer)?;
+    let mut line = Text::new(out, 0);
+    line.put(b"end ");
+    line.put_decimal(u64::from(blocks));
+    line.put(b" blocks ");
+    line.put_decimal(u64::from(paid));
+    line.put(b" paid\n");
+    Ok(line.length())
 }

@@ -4,7 +4,7 @@ use Rattle.std.proofs.Common.{ℕ, ◌+◌, ◌-◌, ◌*◌, ◌%◌, ◌≤◌
 use Rattle.report.specs.Lines.{header, end_line}
 use Rattle.runs.specs.declared.Counts.{Counts}
 use Rattle.blocks.specs.Files.{block_count, blocks, all_blocks}
-use Rattle.runs.specs.Run.{limit, lines, paid_in, report_of, left, wanted_after, counted}
+use Rattle.runs.specs.Run.{limit, lines, paid_in, blocks_read, report_of, left, wanted_after, counted}
 use Rattle.runs.specs.Steps.{none, Reported}
 use Rattle.blocks.proofs.Files.{length_blocks, blocks_append, blocks_front}
 use Rattle.runs.proofs.Lines.{lines_append, paid_append, paid_few}
@@ -75,3 +75,21 @@ module _ {done : List ℕ} {t : Counts} {text : List ℕ} (g : Reported done t t
       let n : length (before ++ all_blocks s) ≡ t.blocks + length (all_blocks s) = rw (length-append, length_blocks t.blocks done) in
       sym (append_assoc text (lines (t.blocks + 1) (all_blocks s)) (end_line (t.blocks + length (all_blocks s)) (t.paid + paid_in (all_blocks s))))
       ∙ rw (text_both, read, n, paid_both) (append_assoc header (lines 1 (before ++ all_blocks s)) (end_line (t.blocks + length (all_blocks s)) (paid_in (before ++ all_blocks s))))
+
+-- the report of a file goes on after what is reported of its first bytes
+pub reported_start : {done text : List ℕ} {t : Counts} (rest : List ℕ) → Reported done t text → (more : List ℕ) × (report_of (done ++ rest) ≡ text ++ more)
+unfolding report_of
+reported_start {done} {text} {t} rest g =
+    let file : List ℕ = done ++ rest in
+    let n = min (block_count (length file)) limit in
+    let m = n - t.blocks in
+    let some : n ≡ t.blocks + m = omega (arith, length-append done rest, g.whole, g.few) in
+    let read : blocks_read file ≡ blocks t.blocks done ++ blocks m rest = ap (λ (j : ℕ). blocks j file) some ∙ blocks_append t.blocks m done rest g.whole in
+    let first = lines 1 (blocks t.blocks done) in
+    let later = lines (1 + length (blocks t.blocks done)) (blocks m rest) in
+    let end = end_line (length (blocks_read file)) (paid_in (blocks_read file)) in (
+      later ++ end,
+      ap (λ l. header ++ lines 1 l ++ end) read ∙ ap (λ l. header ++ l ++ end) (lines_append 1 (blocks t.blocks done) (blocks m rest))
+          ∙ ap (λ l. l ++ end) (sym (append_assoc header first later)) ∙ append_assoc (header ++ first) later end
+          ∙ ap (λ l. l ++ (later ++ end)) (sym g.report),
+    )

@@ -1,6 +1,6 @@
 -- The steps of a run, and what they add to the report of a file.
 -- Assumes nothing.
-use Rattle.std.specs.Prelude.{ℕ, ◌+◌, ◌-◌, ◌*◌, ◌%◌, ◌≤◌, ◌<◌, min, Bool, true, false, cond, List, [], ◌++◌, ◌≡◌, eqb, length, take, drop}
+use Rattle.std.specs.Prelude.{ℕ, ◌+◌, ◌-◌, ◌*◌, ◌%◌, ◌≤◌, ◌<◌, Bool, true, false, cond, List, [], ◌++◌, ◌≡◌, eqb, length, take, drop}
 use Rattle.report.specs.Lines.{header, end_line}
 use Rattle.runs.specs.declared.Counts.{Counts}
 use Rattle.runs.specs.declared.Progress.{Progress}
@@ -33,15 +33,19 @@ ends Open wanted = eqb wanted 0
 ends Ended wanted = true
 ends Failed wanted = false
 
--- the last part of a block among the first got bytes of a buffer of 65,536
-unfoldable pub last_part : List ℕ → ℕ → List ℕ
-last_part input got = take (min got 65536 % 512) (drop (min got 65536 - min got 65536 % 512) input)
+-- the bytes that came: no more than were wanted
+abbrev pub came : Counts → List ℕ → List ℕ
+came t input = take (wanted_after t) input
 
--- a step with the got bytes at the start of input
-module _ (t : Counts) (input : List ℕ) (got : ℕ) (source : Source) where
-  -- the bytes that count, no more than were wanted
+-- the last part of a block among some bytes
+unfoldable pub last_part : List ℕ → List ℕ
+last_part bytes = drop (length bytes - length bytes % 512) bytes
+
+-- a step with the bytes of input
+module _ (t : Counts) (input : List ℕ) (source : Source) where
+  -- the bytes that count
   unfoldable pub chunk : List ℕ
-  chunk = take (bytes_taken source (min got (wanted_after t))) input
+  chunk = take (bytes_taken source (length (came t input))) input
 
   abbrev pub counts_after : Counts
   counts_after = counted t (all_blocks chunk)
@@ -54,7 +58,7 @@ module _ (t : Counts) (input : List ℕ) (got : ℕ) (source : Source) where
   step_text = lines (t.blocks + 1) (all_blocks chunk) ++ cond (ends source wanted_next) (end_line counts_after.blocks counts_after.paid) []
 
   abbrev pub step_of : Progress
-  step_of = record { counts = counts_after; wanted = wanted_next; held = length (last_part input (min got (wanted_after t))); length = length step_text }
+  step_of = record { counts = counts_after; wanted = wanted_next; held = length (last_part (came t input)); length = length step_text }
 
 -- a text that reports the bytes done: they are whole blocks, no more than may be read; the counts are theirs, and the text is the
 -- header and their lines
@@ -66,12 +70,12 @@ pub record Reported (done : List ℕ) (t : Counts) (text : List ℕ) : Type 0 wh
 
 -- what a step adds to the text so far, where the bytes done were reported before it: r is its answer, and bytes are those that it
 -- formed
-pub record Continues (t : Counts) (input : List ℕ) (got : ℕ) (source : Source) (r : Progress) (bytes : List ℕ) : Type 0 where
+pub record Continues (t : Counts) (input : List ℕ) (source : Source) (r : Progress) (bytes : List ℕ) : Type 0 where
   -- while more is wanted, the chunk is reported too
-  pub going : (done text : List ℕ) → Reported done t text → 0 < r.wanted → Reported (done ++ chunk t input got source) r.counts (text ++ bytes)
+  pub going : (done text : List ℕ) → Reported done t text → 0 < r.wanted → Reported (done ++ chunk t input source) r.counts (text ++ bytes)
   -- so it is where a read failed, which ends the run
-  pub broken : (done text : List ℕ) → Reported done t text → source ≡ Failed → Reported (done ++ chunk t input got source) r.counts (text ++ bytes)
+  pub broken : (done text : List ℕ) → Reported done t text → source ≡ Failed → Reported (done ++ chunk t input source) r.counts (text ++ bytes)
   -- otherwise, when the run is over, the text is the report of the whole file. rest is what the file has after the chunk: nothing
   -- where the file has ended
   pub over : (done text rest : List ℕ) → Reported done t text → (source ≡ Failed → ⊥) → r.wanted ≡ 0 → (source ≡ Ended → rest ≡ [])
-      → text ++ bytes ≡ report_of (done ++ (chunk t input got source ++ rest))
+      → text ++ bytes ≡ report_of (done ++ (chunk t input source ++ rest))

@@ -1,35 +1,26 @@
 // A chunk of a case file: its blocks valued, their lines formed one after the other, and counted.
-ghost use Rattle.std.specs.Prelude.{◌≡◌, ◌+◌, ◌≤◌, min, length};
+ghost use Rattle.std.specs.Prelude.{◌≡◌, ◌+◌, ◌≤◌, length};
 ghost use Rattle.buffers.specs.Text.{Written};
 ghost use Rattle.blocks.specs.Files.{all_blocks};
 ghost use Rattle.runs.specs.Run.{lines, paid_one, wanted_after, counted};
 
 use crate::Counts;
 use crate::line::put_line;
-use answers::{Answer, Outcome};
+use answers::Outcome;
 use valuing::value_block;
 
 // The counts after a chunk, and how many bytes its lines take.
-#[derive(Clone, Copy)]
+#[derive(Clone, Copy, Debug, PartialEq, Eq)]
 pub(crate) struct Lines {
     pub(crate) counts: Counts,
     pub(crate) length: usize,
 }
 
-pub(crate) fn least(a: usize, b: usize) -> usize
-    ensures { result ≡ min a b }
+fn paid_one(outcome: &Outcome) -> u32
+    ensures count { result ≡ paid_one outcome.now }
+    ensures bound { result ≤ 1 }
 {
-    if a < b { a } else { b }
-}
-
-fn paid_one(a: Answer) -> u32
-    ensures { (result ≡ paid_one a.outcome) × (result ≤ 1) }
-{
-    let outcome = a.outcome;
-    match outcome {
-        Outcome::Paid(_) => 1,
-        Outcome::Refused(_) => 0,
-    }
+    u32::from(matches!(outcome, Outcome::Paid(_)))
 }
 
 // Values the blocks of a chunk, the last of them maybe shorter than 512 bytes, and forms their lines at the start of out.
@@ -42,18 +33,15 @@ pub(crate) fn put_lines(input: &[u8], counts: Counts, out: &mut [u8]) -> Lines
 {
     let mut blocks = counts.blocks;
     let mut paid = counts.paid;
-    let mut at: usize = 0;
-    let mut used: usize = 0;
-    while at < input.len() {
-        let end = least(at + 512, input.len());
-        let answer = value_block(&input[at..end]);
+    let mut length = 0;
+    for block in input.chunks(512) {
+        let answer = value_block(block);
         blocks += 1;
-        paid += paid_one(answer);
-        used = put_line(out, used, blocks, answer);
-        at = end;
+        paid += paid_one(&answer.outcome);
+        length = put_line(out, length, blocks, answer);
     }
     Lines {
         counts: Counts { blocks, paid },
-        length: used,
+        length,
     }
 }

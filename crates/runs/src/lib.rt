@@ -1,4 +1,4 @@
-// The run over a case file: what is read, chunk after chunk, and what is written of it.
+//! The run over a case file: what is read, chunk after chunk, and what is written of it.
 #![tactic(auto)]
 
 mod chunk;
@@ -8,31 +8,32 @@ mod run;
 
 pub use run::{start, step};
 
-// What a step reads from: 128 blocks.
+/// Room for all that a step takes: 128 blocks.
 pub type Input = [u8; 65536];
 
-// What it writes to: room for the lines of 128 blocks and the end line, at 256 bytes a line.
+/// What a step writes to: room for the lines of 128 blocks and the end line, at 256 bytes a line.
 pub type Output = [u8; 33024];
 
-// What can come after the bytes read so far: more, nothing since the file has ended, or nothing since a read failed.
-#[derive(Clone, Copy)]
+/// What can come after the bytes read so far: more, nothing since the file has ended, or nothing since a read failed.
+#[derive(Clone, Copy, Debug, PartialEq, Eq)]
 pub enum Source {
     Open,
     Ended,
     Failed,
 }
 
-// How many blocks were read, and how many of them were paid.
-#[derive(Clone, Copy)]
+/// How many blocks were read, and how many of them were paid.
+#[derive(Clone, Copy, Debug, Default, PartialEq, Eq)]
 pub struct Counts {
     pub blocks: u32,
     pub paid: u32,
 }
 
-// How far a run has come: the counts; how many bytes the next step takes at most, 0 where the run is over; how many of these stand at
-// the start of the input already, a part of a block that waits for its rest; and how many bytes at the start of the output to write
-// before that.
-#[derive(Clone, Copy)]
+/// How far a run has come: the counts; how many bytes the next step takes at most, 0 where the run is over; how many of these stand at
+/// the start of the input already, a part of a block that waits for its rest; and how many bytes at the start of the output to write
+/// before that. Lengths, since input and output are lent by the caller. `wanted` is no `Option`: `Some(0)` would be a second way to
+/// say that the run is over.
+#[derive(Clone, Copy, Debug, PartialEq, Eq)]
 pub struct Progress {
     pub counts: Counts,
     pub wanted: usize,

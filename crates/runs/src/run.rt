@@ -2,58 +2,68 @@
 ghost use Rattle.std.specs.Prelude.{◌≡◌, [], ◌++◌, ◌+◌, ◌%◌, ◌≤◌, ◌<◌, min, length, take, drop};
 ghost use Rattle.report.specs.Lines.{header};
 ghost use Rattle.runs.specs.Run.{left, wanted_after};
-ghost use Rattle.runs.specs.Steps.{bytes_taken, wanted_unless, ends, last_part, start_of, step_of, chunk, step_text, Reported, Continues};
+ghost use Rattle.runs.specs.Steps.{bytes_taken, wanted_unless, ends, came, last_part, start_of, step_of, chunk, step_text, Reported, Continues};
 
-use crate::chunk::{least, put_lines};
+use crate::chunk::put_lines;
 use crate::line::{end_of, put_end};
 use crate::part::keep_part;
-use crate::{Counts, Input, Output, Progress, Source};
+use crate::{Counts, Output, Progress, Source};
 use report::form_header;
 
-fn wanted_after(counts: Counts) -> usize
-    ensures { result ≡ wanted_after counts }
-{
-    if counts.paid <= counts.blocks {
-        least(
-            65536,
-            (1000000 - least(counts.blocks as usize, 1000000)) * 512,
-        )
-    } else {
-        0
+// What a step takes at most: 128 blocks.
+const MOST: usize = 65536;
+
+// After so many blocks no more are read.
+const LIMIT: u32 = 1000000;
+
+impl Counts {
+    // How many bytes the next step takes at most. Counts of more paid than read are no run's. `as` loses nothing: `usize` has 64 bits,
+    // and there is no `From`.
+    fn wanted(self) -> usize
+        ensures { result ≡ wanted_after self }
+    {
+        if self.paid <= self.blocks {
+            (LIMIT.saturating_sub(self.blocks) as usize * 512).min(MOST)
+        } else {
+            0
+        }
     }
 }
 
-fn bytes_taken(source: Source, n: usize) -> usize
-    ensures { (result ≡ bytes_taken source n) × (result ≤ n) }
-{
-    match source {
-        Source::Open => n - n % 512,
-        Source::Ended => n,
-        Source::Failed => n - n % 512,
+impl Source {
+    // How many of n bytes a step takes: a last part of a block counts only where the file has ended.
+    fn bytes_taken(self, n: usize) -> usize
+        ensures value { result ≡ bytes_taken self n }
+        ensures bound { result ≤ n }
+    {
+        match self {
+            Source::Ended => n,
+            Source::Open | Source::Failed => n - n % 512,
+        }
+    }
+
+    fn wanted(self, after: Counts) -> usize
+        ensures { result ≡ wanted_unless self after }
+    {
+        match self {
+            Source::Open => after.wanted(),
+            Source::Ended | Source::Failed => 0,
+        }
+    }
+
+    // Whether the end line follows.
+    fn ends(self, wanted: usize) -> bool
+        ensures { result ≡ ends self wanted }
+    {
+        match self {
+            Source::Open => wanted == 0,
+            Source::Ended => true,
+            Source::Failed => false,
+        }
     }
 }
 
-fn wanted_unless(source: Source, after: Counts) -> usize
-    ensures { result ≡ wanted_unless source after }
-{
-    match source {
-        Source::Open => wanted_after(after),
-        Source::Ended => 0,
-        Source::Failed => 0,
-    }
-}
-
-fn end_follows(source: Source, wanted: usize) -> bool
-    ensures { result ≡ ends source wanted }
-{
-    match source {
-        Source::Open => wanted == 0,
-        Source::Ended => true,
-        Source::Failed => false,
-    }
-}
-
-// Starts a run: the header is to be written, and the first chunk to be read.
+/// Starts a run: the header is to be written, and the first chunk to be read.
 pub fn start(out: &mut Output) -> Progress
     ensures answer { result ≡ start_of }
     ensures bytes { out.new ≡ header ++ drop result.length out.old }
@@ -61,43 +71,34 @@ pub fn start(out: &mut Output) -> Progress
 {
     let formed = form_header(out);
     Progress {
-        counts: Counts { blocks: 0, paid: 0 },
-        wanted: 65536,
+        counts: Counts::default(),
+        wanted: MOST,
         held: 0,
         length: end_of(0, formed),
     }
 }
 
-// Continues a run with the `got` bytes at the start of `input`. While more can come, a last part of a block waits at the start of `input`
-// for its rest, which the caller reads in after it.
-pub fn step(
-    counts: Counts,
-    input: &mut Input,
-    got: usize,
-    source: Source,
-    out: &mut Output,
-) -> Progress
-    ensures answer { result ≡ step_of counts input.old got source }
-    ensures bytes { out.new ≡ step_text counts input.old got source ++ drop result.length out.old }
-    ensures file { Continues counts input.old got source result (take result.length out.new) }
-    ensures part { input.new ≡ last_part input.old (min got (wanted_after counts)) ++ drop result.held input.old }
-    ensures all { 0 < result.wanted → chunk counts input.old got source ++ take result.held input.new ≡ take (min got (wanted_after counts)) input.old }
+/// Continues a run with the bytes of `input`, the part of a block that was held among them. While more can come, a last part of a block
+/// waits at the start of `input` for its rest, which the caller reads in after it. The counts alone, and no struct of the run: any
+/// counts and any bytes are answered, whoever made them.
+pub fn step(counts: Counts, input: &mut [u8], source: Source, out: &mut Output) -> Progress
+    ensures answer { result ≡ step_of counts input.old source }
+    ensures bytes { out.new ≡ step_text counts input.old source ++ drop result.length out.old }
+    ensures file { Continues counts input.old source result (take result.length out.new) }
+    ensures part { input.new ≡ last_part (came counts input.old) ++ drop result.held input.old }
+    ensures all { 0 < result.wanted → chunk counts input.old source ++ take result.held input.new ≡ came counts input.old }
     ensures room { ((result.wanted ≤ 65536) × (result.wanted % 512 ≡ 0)) × ((result.held < 512) × (result.length ≤ 33024)) }
-    ensures less { (source ≡ Source.Open → 512 ≤ got) → left result.counts + min 1 result.wanted ≤ left counts }
+    ensures less { (source ≡ Source.Open → 512 ≤ length input.old) → left result.counts + min 1 result.wanted ≤ left counts }
 {
-    let want = wanted_after(counts);
-    let came = least(got, want);
-    let n = bytes_taken(source, came);
-    let read = &input[..];
-    let lines = put_lines(&read[0..n], counts, out);
-    let after = lines.counts;
-    let wanted = wanted_unless(source, after);
-    let length = put_end(out, lines.length, after, end_follows(source, wanted));
-    let held = keep_part(input, came);
+    let end = input.len().min(counts.wanted());
+    let lines = put_lines(&input[..source.bytes_taken(end)], counts, out);
+    let wanted = source.wanted(lines.counts);
+    let length = put_end(out, lines.length, lines.counts, source.ends(wanted));
+    let held = keep_part(&mut input[..end]);
     Progress {
-        counts: after,
-        wanted: wanted,
-        held: held,
-        length: length,
+        counts: lines.counts,
+        wanted,
+        held,
+        length,
     }
 }

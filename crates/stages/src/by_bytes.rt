@@ -1,35 +1,30 @@
 // The checksum of a block taken a byte at a time: for the benchmark alone, which times the check by words against it.
-ghost use Rattle.std.specs.Prelude.{◌≡◌, ◌*◌, ◌≤◌, length};
+ghost use Rattle.std.specs.Prelude.{◌≡◌, ◌+◌, ◌*◌, ◌<◌, ◌≤◌};
 ghost use Rattle.blocks.specs.Block.{checksum, checksum_or_zero};
 
-// What a byte adds to the check, at a position counted from 1.
-fn byte_term(position: u32, x: u8) -> u32
-    requires { position ≤ 508 }
-    ensures { (result ≡ position * x) × (result ≤ 129540) }
+// What a byte adds to the check, at an index below 508: `as` loses nothing, and `try_from` would give an error that cannot be.
+fn byte_term(index: usize, byte: u8) -> u32
+    requires { index < 508 }
+    ensures { (result ≡ (index + 1) * byte) × (result ≤ 129540) }
 {
-    position * (x as u32)
+    (index as u32 + 1) * u32::from(byte)
 }
 
-fn sum_bytes(b: &[u8]) -> u32
-    requires { 508 ≤ length b.now }
-    ensures { result ≡ checksum b.now }
+fn sum_bytes(bytes: &[u8; 508]) -> u32
+    ensures { result ≡ checksum bytes.now }
 {
-    let mut sum: u32 = 0;
-    let mut i: u32 = 0;
-    while i < 508 {
-        sum += byte_term(i + 1, b[i as usize]);
-        i += 1;
+    let mut sum = 0;
+    for (index, &byte) in bytes.iter().enumerate() {
+        sum += byte_term(index, byte);
     }
     sum
 }
 
+/// The checksum that a block of these bytes must hold; 0 where there are fewer than 508.
+#[tactic(auto, using(blocks::proofs::Words::checksum_short, blocks::proofs::Words::checksum_first))]
 #[unsafe(no_mangle)]
 pub extern "C" fn stages_check_by_bytes(block: &[u8]) -> u32
     ensures { result ≡ checksum_or_zero block.now }
 {
-    if block.len() < 508 {
-        0
-    } else {
-        sum_bytes(block)
-    }
+    block.first_chunk().map_or(0, sum_bytes)
 }

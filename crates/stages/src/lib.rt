@@ -4,7 +4,7 @@
 
 mod by_bytes;
 
-ghost use Rattle.std.specs.Prelude.{◌≡◌};
+ghost use Rattle.std.specs.Prelude.{◌≡◌, MatchResult};
 ghost use Rattle.blocks.specs.Block.{checksum_or_zero};
 ghost use Rattle.blocks.specs.Reading.{reading_of};
 ghost use Rattle.valuing.specs.Block.{block_answer};
@@ -26,15 +26,14 @@ pub extern "C" fn stages_check(block: &[u8]) -> u32
 // The case number of a block that is read, else 0.
 #[unsafe(no_mangle)]
 pub extern "C" fn stages_read(block: &[u8]) -> u32
-    ensures { result ≡ (reading_of block.now).case.number }
+    ensures { MatchResult (reading_of block.now) (λ case. result ≡ case.number) (λ _. result ≡ 0) }
 {
-    let reading = read_block(block);
-    let case = reading.case;
-    case.number
+    read_block(block).map_or(0, |case| case.number)
 }
 
-fn amount(outcome: Outcome) -> u64
-    ensures { result ≡ paid outcome }
+// Not one with `paid_one` of `runs`, which asks only whether there is an amount.
+fn amount(outcome: &Outcome) -> u64
+    ensures { result ≡ paid outcome.now }
 {
     match outcome {
         Outcome::Paid(items) => items.payment,
@@ -47,7 +46,5 @@ fn amount(outcome: Outcome) -> u64
 pub extern "C" fn stages_value(block: &[u8]) -> u64
     ensures { result ≡ paid (block_answer block.now).outcome }
 {
-    let answer = value_block(block);
-    let outcome = answer.outcome;
-    amount(outcome)
+    amount(&value_block(block).outcome)
 }

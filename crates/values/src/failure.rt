@@ -1,41 +1,40 @@
-// Failures, said on standard error.
-use std::fmt::Write;
-use std::io::{Eprint, ErrorKind};
-use std::{fmt, io, str};
+// What failed, and how it is said on standard error.
+use std::io::{Cursor, Eprint, ErrorKind, Write};
+use std::{io, str};
 
-// The text of an error, as far as the buffer holds it.
-#[derive(Drop)]
-struct Text {
-    bytes: [u8; 128],
-    length: usize,
+// Why the program did not do all that it was asked.
+#[derive(Debug, Drop)]
+pub(crate) enum Failure {
+    Input(io::Error),
+    Output(io::Error),
+    // Of standard error itself, so that there is nowhere to say it.
+    Message,
 }
 
-impl Write for Text {
-    fn write_str(&mut self, s: &str) -> fmt::Result {
-        for b in s.as_bytes() {
-            let Some(byte) = self.bytes.get_mut(self.length) else {
-                return Err(fmt::Error);
-            };
-            *byte = *b;
-            self.length = self.length.saturating_add(1);
+impl Failure {
+    pub(crate) fn say(&self, rt: &impl Eprint) {
+        match self {
+            Failure::Input(e) => say(rt, "standard input", e),
+            Failure::Output(e) => say(rt, "standard output", e),
+            Failure::Message => {}
         }
-        Ok(())
     }
 }
 
-// What failed and why, in the system's words without their number; a write that took nothing has none. What fails on standard error
-// itself has nowhere to be said.
-pub(crate) fn say_failure(rt: &impl Eprint, what: &str, error: &io::Error) {
+// What failed and why, in the system's words without their number, as far as the buffer holds them; a write that took nothing has
+// none.
+fn say(rt: &impl Eprint, what: &str, error: &io::Error) {
     if error.kind() == ErrorKind::WriteZero {
         let _ = eprintln!(rt; "{what}: nothing more is taken");
         return;
     }
-    let mut text = Text {
-        bytes: [0u8; 128],
-        length: 0,
-    };
+    let mut text = Cursor::new([0u8; 128]);
     let _ = write!(text, "{error}");
-    let words = text.bytes.get(..text.length).unwrap_or(&[]);
+    // `as` loses nothing: the position is at most 128.
+    let words = text
+        .get_ref()
+        .get(..text.position() as usize)
+        .unwrap_or(&[]);
     let words = str::from_utf8(words).unwrap_or("");
     let words = words
         .split_once(" (os error")

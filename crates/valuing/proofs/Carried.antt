@@ -1,10 +1,11 @@
 -- What the code carries from line to line, one line further; and the totals over all lines.
 -- Assumes nothing.
-use Rattle.std.proofs.Common.{ℕ, ◌+◌, ◌<◌, false, ◌≡◌, refl, arith}
+use Rattle.std.proofs.Common.{ℕ, ◌+◌, ◌<◌, false, ◌≡◌, arith, get_or, take}
+use Rattle.std.proofs.lemmas.List.{get_or-take}
 use borrow.Author.Tests.{lt-leb}
-use Rattle.numbers.specs.Below.{sum_below}
-use Rattle.numbers.proofs.Below.{sum_more, any_none, any_more}
-use Rattle.cases.specs.Entries.{line, age_of}
+use Rattle.numbers.specs.Below.{sum_below, any_below}
+use Rattle.numbers.proofs.Below.{sum_more, any_more}
+use Rattle.cases.specs.Entries.{line, line_by, age_of}
 use Rattle.cases.specs.Kinds.{rules_of}
 use Rattle.cases.specs.declared.Line.{Line}
 use Rattle.cases.specs.declared.Case.{Case}
@@ -19,26 +20,28 @@ pub row_within : (c : Case) (i : ℕ) → i < c.count → row_in (rules_of c.kin
 unfolding row_of
 row_within c i h = rw (lt-leb c.count i h)
 
+-- and the line itself
+pub counted_line : (c : Case) (i : ℕ) → i < c.count → get_or (take c.count c.lines) i (line_by (λ e. 0) 0) ≡ line c i
+counted_line c i h = get_or-take c.count c.lines i _ h
+
 -- amounts valued, one line further
 pub valued_more :
     (c : Case) (i : ℕ) (amount : ℕ → Line → Benefit → ℕ) (b : Benefit) →
     valued_below (i + 1) c amount b ≡ valued_below i c amount b + valued_at (factors_of c i) (amount c.revaluation (line c i)) b
 valued_more c i amount b = sum_more i _
 
-abbrev pub no_totals : Totals
-no_totals = record { pension = 0; lump = 0; survivor = 0; deduction = 0; debit = 0; absent = false; excess = false }
-
-pub totals_none : (c : Case) → TotalsBelow c 0 no_totals
-unfolding sum_below
-totals_none c =
+-- before the first line all is zero
+pub totals_none : (c : Case) (t : Totals) → (t.pension ≡ 0) × ((t.lump ≡ 0) × ((t.survivor ≡ 0) × ((t.deduction ≡ 0) × ((t.debit ≡ 0) × ((t.absent ≡ false) × (t.excess ≡ false)))))) → TotalsBelow c 0 t
+unfolding sum_below any_below
+totals_none c t z =
     record {
-      pension = refl;
-      lump = refl;
-      survivor = refl;
-      deduction = refl;
-      debit = refl;
-      missing = any_none _;
-      excess = any_none _;
+      pension = z.0;
+      lump = z.1.0;
+      survivor = z.1.1.0;
+      deduction = z.1.1.1.0;
+      debit = z.1.1.1.1.0;
+      missing = z.1.1.1.1.1.0;
+      excess = z.1.1.1.1.1.1;
       bounded = omega arith;
     }
 

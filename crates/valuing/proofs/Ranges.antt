@@ -7,13 +7,18 @@ use Rattle.numbers.proofs.Below.{any_false}
 use Rattle.numbers.proofs.Lists.{each_not}
 use Rattle.cases.specs.Layout.{amounts}
 use Rattle.cases.specs.Entries.{line, any_line, amount_in}
-use Rattle.cases.specs.Form.{too_large, line_range_fault, head_range_fault, range_fault, status_listed, receiver_listed, sex_listed, dates_range_fault}
+use Rattle.refusals.specs.declared.Refusal.TheVariants.{Range}
+use Rattle.refusals.proofs.Order.{none_given}
+use Rattle.cases.specs.Form.{WellFormed, form_tests, too_large, line_range_fault, head_range_fault, range_fault, status_listed, receiver_listed, sex_listed, dates_range_fault}
 use Rattle.cases.specs.Flags.{transfer_flag}
 use Rattle.cases.specs.Kinds.{rules_of}
 use Rattle.cases.specs.declared.Case.{Case}
 use Rattle.sums.specs.Sum.{revalued}
 use Rattle.sums.specs.Payment.{underpin}
 use Rattle.valuing.specs.Totals.{HeadInRange, LineInRange}
+
+pub in_range : (c : Case) → WellFormed c → range_fault c ≡ false
+in_range c w = none_given Range (form_tests false c) w
 
 module _ (c : Case) (sound : range_fault c ≡ false) where
   both : (head_range_fault c ≡ false) × (any_line (line_range_fault (rules_of c.kind) c.count) c ≡ false)

@@ -1,30 +1,17 @@
 -- The totals of a case over its lines are those of the sum: refusal 14, the first value, the debit value and the items.
 -- Assumes nothing.
-use Rattle.std.proofs.Common.{ℕ, ◌+◌, ◌-◌, Bool, true, false, cond, ◌≡◌, refl, ap, arith, ltb}
+use Rattle.std.proofs.Common.{ℕ, ◌+◌, ◌-◌, Bool, true, false, cond, Ok, Err, ◌≡◌, refl, sym, ap, ◌∙◌, arith, ltb}
 use Rattle.numbers.specs.Rounding.{nearest}
+use Rattle.refusals.specs.declared.Refusal.TheVariants.{Negative}
+use Rattle.refusals.proofs.Order.{passed_number}
 use Rattle.cases.specs.declared.Case.{Case}
 use Rattle.sums.specs.Rows.{factors_of}
 use Rattle.sums.specs.Sum.{valued_on, deduction, credit, negative_fault, first_value, debit_value, gross_by}
-use Rattle.sums.specs.Payment.{underpin, payment}
+use Rattle.sums.specs.Payment.{payment, underpin}
 use Rattle.answers.specs.Answer.{gross_of, items_of}
-use Rattle.valuing.specs.Totals.{TotalsBelow, rest_of}
 use Rattle.answers.specs.declared.Items.{Items}
+use Rattle.valuing.specs.Totals.{TotalsBelow, rest_of}
 use Rattle.valuing.specs.declared.sum.Totals.{Totals}
-use Rattle.valuing.specs.declared.sum.Rest.TheVariants.{Left, Below}
-
-rest_below : (a b : ℕ) → Below ≡ rest_of a b → ltb a b ≡ true
-rest_below a b e = go (ltb a b) e
-  where
-    go : (s : Bool) → Below ≡ cond s Below (Left (a - b)) → s ≡ true
-    go true e = refl
-    go false e = absurd (let z : ◌≡◌ {A = ℕ} 0 1 = cc in omega arith)
-
-pub rest_left : (a b n : ℕ) → Left n ≡ rest_of a b → (ltb a b ≡ false) × (n ≡ a - b)
-rest_left a b n e = go (ltb a b) e
-  where
-    go : (s : Bool) → Left n ≡ cond s Below (Left (a - b)) → (s ≡ false) × (n ≡ a - b)
-    go true e = absurd (let z : ◌≡◌ {A = ℕ} 0 1 = cc in omega arith)
-    go false e = (refl, cc)
 
 module _ (c : Case) (t : Totals) (carried : TotalsBelow c 4 t) where
   abbrev pub added : ℕ
@@ -38,19 +25,30 @@ module _ (c : Case) (t : Totals) (carried : TotalsBelow c 4 t) where
   unfolding deduction
   deduction_is = carried.deduction
 
+  pub negative_is : negative_fault (factors_of c) c ≡ ltb added t.deduction
+  unfolding negative_fault
+  negative_is = rw (credit_is, deduction_is)
+
+  pub first_value_is : first_value (factors_of c) c ≡ nearest 100 (added - t.deduction)
+  unfolding first_value
+  first_value_is = rw (credit_is, deduction_is)
+
   pub debit_is : nearest 100 t.debit ≡ debit_value (factors_of c) c
   unfolding debit_value valued_on
   debit_is = ap (nearest 100) carried.debit
 
-  pub below_zero_lem : Below ≡ rest_of added t.deduction → negative_fault (factors_of c) c ≡ true
-  unfolding negative_fault
-  below_zero_lem e = rw (credit_is, deduction_is) at (rest_below added t.deduction e)
+  -- what the signed total tells
+  pub below_zero_lem : Err Negative ≡ rest_of added t.deduction → negative_fault (factors_of c) c ≡ true
+  below_zero_lem e = negative_is ∙ go (ltb added t.deduction) e
+    where
+      go : (s : Bool) → Err Negative ≡ cond s (Err Negative) (Ok (added - t.deduction)) → s ≡ true
+      go true e = refl
+      go false e = absurd (let z : ◌≡◌ {A = ℕ} 0 1 = cc in omega arith)
 
-  pub left_over : (n : ℕ) → Left n ≡ rest_of added t.deduction → (negative_fault (factors_of c) c ≡ false) × (nearest 100 n ≡ first_value (factors_of c) c)
-  unfolding negative_fault first_value
+  pub left_over : (n : ℕ) → Ok n ≡ rest_of added t.deduction → (negative_fault (factors_of c) c ≡ false) × (nearest 100 n ≡ first_value (factors_of c) c)
   left_over n e =
-      let k = rest_left added t.deduction n e in
-      (rw (credit_is, deduction_is) at k.0, rw (k.1, credit_is, deduction_is))
+      let left = passed_number (ltb added t.deduction) Negative (added - t.deduction) e in
+      (negative_is ∙ left.0, ap (nearest 100) (sym left.1) ∙ sym first_value_is)
 
   -- the items, where n is left of the first value
   abbrev items_left : ℕ → Items
@@ -77,3 +75,8 @@ module _ (c : Case) (t : Totals) (carried : TotalsBelow c 4 t) where
         underpin = underpin c;
         avc = c.avc;
       }
+
+  -- with the payment of the gross value
+  pub items_of_gross : items_left (gross_of c) ≡ items_of c
+  unfolding gross_of gross_by
+  items_of_gross = rw (← debit_is) (items_are (first_value (factors_of c) c) refl)

@@ -1,16 +1,14 @@
 -- The signed difference of two unsigned numbers, as a 64-bit signed local holds it.
-use Rattle.std.proofs.Common.{◌≡◌, refl, sym, ap, ap₂, ◌∙◌, Bool, true, false, cond, ℕ, zero, suc, ◌-◌, ◌<◌, ◌^◌, arith, ltb, ℤ, pos, negsuc, ◌-ℤ◌, w64, SFits, to_z, of_z, to_z-of_z, lt-ltb}
+-- Assumes nothing.
+use Rattle.std.proofs.Common.{◌≡◌, refl, sym, ap, ap₂, ◌∙◌, Bool, true, false, cond, ℕ, zero, suc, ◌-◌, ◌<◌, ◌^◌, arith, ltb, ℤ, pos, negsuc, ◌-ℤ◌, w64, SFits, to_z, of_z, to_z-of_z}
 use Rattle.std.proofs.Math.Dec.{leb-suc-zero}
 use Rattle.std.proofs.Math.IntN.{sub_ℕ}
-use lib.Signed.{mag, lt_z}
+use Rattle.std.proofs.lemmas.Int.{to_z_pos}
+use Rattle.std.specs.Int.Signed.{mag, lt_z}
 
 pos_sub : (a b : ℕ) → pos a -ℤ pos b ≡ sub_ℕ a b
 pos_sub a zero = rw (leb-suc-zero a) (ap pos (omega arith))
 pos_sub a (suc b) = refl
-
--- a number below 2 ^ 63 is its own signed reading
-pub to_z_pos : (a : ℕ) → a < 2 ^ 63 → to_z w64 a ≡ pos a
-to_z_pos a h = rw (lt-ltb a (2 ^ 63) h)
 
 pub sub_below : (a b : ℕ) → lt_z (sub_ℕ a b) (pos 0) ≡ ltb a b
 sub_below a b = go (ltb a b)
@@ -28,7 +26,7 @@ module _ (a b : ℕ) (ha : a < 2 ^ 62) (hb : b < 2 ^ 62) where
   bits = to_z w64 a -ℤ to_z w64 b
 
   is_sub : bits ≡ sub_ℕ a b
-  is_sub = ap₂ ◌-ℤ◌ (to_z_pos a (omega arith)) (to_z_pos b (omega arith)) ∙ pos_sub a b
+  is_sub = ap₂ ◌-ℤ◌ (to_z_pos w64 a (omega arith)) (to_z_pos w64 b (omega arith)) ∙ pos_sub a b
 
   mag_sub : mag (sub_ℕ a b) < 2 ^ 63
   mag_sub = go (ltb a b)

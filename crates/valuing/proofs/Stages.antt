@@ -1,25 +1,20 @@
 -- The tests in stages: the later ones are asked only where none of the earlier applies.
 -- Assumes nothing.
-use Rattle.std.proofs.Common.{Bool, true, false, cond, List, [], ◌∷◌, ◌++◌, ◌≡◌, refl, sym, ap, ◌∙◌}
-use Rattle.refusals.specs.Tests.{Test, ◌gives◌, first, or_else}
+use Rattle.std.proofs.Common.{Bool, true, false, cond, List, [], ◌∷◌, ◌++◌, Ok, Err, ◌≡◌, refl, sym, ap, ◌∙◌}
+use Rattle.refusals.specs.Tests.{Test, ◌gives◌, Verdict, first, or_else}
 use Rattle.refusals.specs.declared.Refusal.{Refusal}
-use Rattle.refusals.specs.declared.Refusal.TheVariants.{Range, Factor, Debit, Negative, Award}
-use Rattle.refusals.specs.declared.Verdict.{Verdict}
-use Rattle.refusals.specs.declared.Verdict.TheVariants.{Passed, Refused as Refusing}
-use Rattle.refusals.proofs.Order.{first_append, first_none, none_given, first_past, first_stays}
-use Rattle.cases.specs.Form.{form_tests, range_fault, WellFormed}
+use Rattle.refusals.specs.declared.Refusal.TheVariants.{Factor, Debit, Negative, Award}
+use Rattle.refusals.proofs.Order.{first_append, first_none, first_past, first_stays}
+use Rattle.cases.specs.Form.{form_tests, WellFormed}
 use Rattle.cases.specs.declared.Case.{Case}
 use Rattle.sums.specs.Rows.{factors_of}
 use Rattle.sums.specs.Sum.{negative_fault, award_fault, scheme_pays_fault}
 use Rattle.entitlement.specs.Entitlement.{entitlement_tests}
-use Rattle.answers.specs.Answer.{factor_fault, amount_tests, tests, items_of, outcome_by, answer_of}
-use Rattle.answers.specs.declared.Outcome.TheVariants.{Paid, Refused}
-
-pub in_range : (c : Case) → WellFormed c → range_fault c ≡ false
-in_range c w = none_given Range (form_tests false c) w
+use Rattle.answers.specs.Answer.{factor_fault, amount_tests, tests, items_of, outcome_of, outcome_by, answer_of}
+use Rattle.answers.specs.declared.Outcome.TheVariants.{Refused}
 
 -- of a case whose form is refused
-pub by_form : (c : Case) (why : Refusal) → first (form_tests false c) ≡ Refusing why → Refused why ≡ answer_of c
+pub by_form : (c : Case) (why : Refusal) → first (form_tests false c) ≡ Err why → Refused why ≡ answer_of c
 unfolding answer_of tests
 by_form c why e = ap (λ (v : Verdict). outcome_by v c) (sym (first_stays (form_tests false c) (entitlement_tests c ++ amount_tests c) e))
 
@@ -39,17 +34,17 @@ module _ (c : Case) where
   abbrev last : List Test
   last = (negative_fault (factors_of c) c gives Negative) ∷ (award_fault (factors_of c) c gives Award) ∷ []
 
-  pub by_earlier : (why : Refusal) → first earlier ≡ Refusing why → Refused why ≡ outcome_by (first (amount_tests c)) c
+  pub by_earlier : (why : Refusal) → first earlier ≡ Err why → Refused why ≡ outcome_by (first (amount_tests c)) c
   by_earlier why e = ap (λ (v : Verdict). outcome_by v c) (sym (first_stays earlier last e))
 
-  pub by_total : first earlier ≡ Passed →
-      cond (negative_fault (factors_of c) c) (Refused Negative) (cond (award_fault (factors_of c) c) (Refused Award) (Paid (items_of c)))
+  pub by_total : first earlier ≡ Ok tt →
+      outcome_of (cond (negative_fault (factors_of c) c) (Err Negative) (cond (award_fault (factors_of c) c) (Err Award) (Ok (items_of c))))
       ≡ outcome_by (first (amount_tests c)) c
   by_total e =
       go (negative_fault (factors_of c) c) (award_fault (factors_of c) c)
       ∙ ap (λ (v : Verdict). outcome_by v c) (sym (first_past earlier last (first_none earlier e)))
     where
-      go : (s t : Bool) → cond s (Refused Negative) (cond t (Refused Award) (Paid (items_of c))) ≡ outcome_by (first ((s gives Negative) ∷ (t gives Award) ∷ [])) c
+      go : (s t : Bool) → outcome_of (cond s (Err Negative) (cond t (Err Award) (Ok (items_of c)))) ≡ outcome_by (first ((s gives Negative) ∷ (t gives Award) ∷ [])) c
       go true t = refl
       go false true = refl
       go false false = refl

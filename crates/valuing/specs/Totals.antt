@@ -1,6 +1,8 @@
 -- What the code carries from line to line on its way to the sum. No promise of a public function speaks of these.
 -- Assumes nothing.
-use Rattle.std.specs.Prelude.{ℕ, ◌+◌, ◌-◌, ◌*◌, ◌≤◌, Bool, cond, ◌||◌, ◌≡◌, ltb}
+use Rattle.std.specs.Prelude.{ℕ, ◌+◌, ◌-◌, ◌*◌, ◌≤◌, Bool, ◌||◌, Option, ◌≡◌, Result, Ok, Err, cond, ltb}
+use Rattle.refusals.specs.declared.Refusal.{Refusal}
+use Rattle.refusals.specs.declared.Refusal.TheVariants.{Negative}
 use Rattle.numbers.specs.Below.{sum_below, any_below}
 use Rattle.numbers.specs.Lists.{Each}
 use Rattle.cases.specs.Layout.{amounts}
@@ -9,12 +11,9 @@ use Rattle.cases.specs.declared.Line.{Line}
 use Rattle.cases.specs.declared.Case.{Case}
 use Rattle.factors.specs.Rows.{absent, found}
 use Rattle.factors.specs.declared.Factors.{Factors}
-use Rattle.factors.specs.declared.Row.{Row}
 use Rattle.sums.specs.Rows.{row_of, factors_of}
 use Rattle.sums.specs.Sum.{Benefit, member_pension, lump_sum, survivor_pension, reduced, revalued_debit, valued_at, deduction_at, over_benefits, scheme_pays_exceeds}
 use Rattle.valuing.specs.declared.sum.Totals.{Totals}
-use Rattle.valuing.specs.declared.sum.Rest.{Rest}
-use Rattle.valuing.specs.declared.sum.Rest.TheVariants.{Left, Below}
 
 -- the amounts of a line are in their range
 abbrev pub LineInRange : Line → Type 0
@@ -51,7 +50,7 @@ pub record TotalsAt (v : ℕ) (f : Factors) (l : Line) (missing : Bool) (t : Tot
   pub bounded : Bounded 200000000000000 t
 
 -- the same by the line's row: its factors, and whether it is absent
-abbrev pub TotalsBy : Row → ℕ → Line → Totals → Type 0
+abbrev pub TotalsBy : Option Factors → ℕ → Line → Totals → Type 0
 TotalsBy row v l t = TotalsAt v (found row) l (absent row) t
 
 abbrev pub plus_totals : Totals → Totals → Totals
@@ -82,5 +81,5 @@ pub record TotalsBelow (c : Case) (n : ℕ) (t : Totals) : Type 0 where
   pub bounded : Bounded (n * 200000000000000) t
 
 -- the signed difference, or that it is below zero
-abbrev pub rest_of : ℕ → ℕ → Rest
-rest_of a b = cond (ltb a b) Below (Left (a - b))
+abbrev pub rest_of : ℕ → ℕ → Result ℕ Refusal
+rest_of a b = cond (ltb a b) (Err Negative) (Ok (a - b))

@@ -1,74 +1,37 @@
 // Steps 1 to 3 of the sum, the total of step 4, and the same of the divorce debit; nothing is rounded but revalued amounts.
-ghost use Rattle.std.specs.Prelude.{◌≡◌, ◌+◌, ◌-◌, ◌*◌, ◌<◌, ◌≤◌, ◌^◌, ltb};
+ghost use Rattle.std.specs.Prelude.{◌≡◌, ◌+◌, ◌-◌, ◌*◌, ◌<◌, ◌≤◌, ◌^◌, ltb, cond, Some, None, IfSome};
 ghost use Rattle.calendar.specs.Moving.{years_ahead};
-ghost use Rattle.cases.specs.Form.{WellFormed};
-ghost use Rattle.factors.specs.Rows.{absent, found, Small};
+ghost use Rattle.factors.specs.Rows.{Small, found};
 ghost use Rattle.factors.specs.Tables.{row_in};
 ghost use Rattle.sums.specs.Sum.{revalued};
-ghost use Rattle.valuing.specs.Totals.{LineInRange, debit_at, TotalsAt, TotalsBy, TotalsBelow, Bounded, plus_totals, rest_of};
+ghost use Rattle.valuing.specs.Totals.{LineInRange, debit_at, TotalsBy, TotalsBelow, Bounded, plus_totals, rest_of};
 
+use crate::FormedCase;
 use calendar::Date;
-use cases::{Case, Line, rules_of};
-use factors::{Factors, Row, Table, row_in};
+use cases::{Line, rules_of};
+use factors::{Factors, Table};
+use refusals::Refusal;
 
 // Items, deduction and divorce debit in hundredths of a penny, whether a row is absent, and whether Scheme Pays exceeds what it
-// reduces.
-#[derive(Drop)]
+// reduces. Neither is a Result: refusal 12 of any line comes before refusal 13 of any, so both are known only after the last line.
+#[derive(Clone, Copy, Debug, Default, PartialEq, Eq)]
 pub(crate) struct Totals {
-    pub pension: u64,
-    pub lump: u64,
-    pub survivor: u64,
-    pub deduction: u64,
-    pub debit: u64,
-    pub absent: bool,
-    pub excess: bool,
-}
-
-// What is left of a total when the deduction is taken off, or that it is below zero.
-#[derive(Drop)]
-pub(crate) enum Rest {
-    Left(u64),
-    Below,
-}
-
-// A benefit of a line: its part of the item, and whether Scheme Pays exceeds the revalued amount.
-#[derive(Drop)]
-struct Item {
-    pub amount: u64,
-    pub excess: bool,
-}
-
-fn is_absent(row: Row) -> bool
-    ensures { result ≡ absent row }
-{
-    match row {
-        Row::Found(_) => false,
-        Row::Absent => true,
-    }
-}
-
-// The factors of a row, zero where it is absent.
-fn found_or_zero(row: Row) -> Factors
-    ensures { result ≡ found row }
-{
-    match row {
-        Row::Found(f) => f,
-        Row::Absent => Factors {
-            pension: 0,
-            lump: 0,
-            survivor: 0,
-            deduction: 0,
-        },
-    }
+    pub(crate) pension: u64,
+    pub(crate) lump: u64,
+    pub(crate) survivor: u64,
+    pub(crate) deduction: u64,
+    pub(crate) debit: u64,
+    pub(crate) absent: bool,
+    pub(crate) excess: bool,
 }
 
 // Pence times a factor in ten-thousandths, to the penny. Amounts in range leave room to add the half, so there is no need to look at
 // what is over.
-fn revalue(x: u64, v: u32) -> u64
-    requires { (x ≤ 2000000000) × (v ≤ 100000) }
-    ensures { (result ≡ revalued v x) × (result ≤ 20000000000) }
+fn revalue(pence: u64, revaluation: u32) -> u64
+    requires { (pence ≤ 2000000000) × (revaluation ≤ 100000) }
+    ensures { (result ≡ revalued revaluation pence) × (result ≤ 20000000000) }
 {
-    (x * (v as u64) + 5000) / 10000
+    (pence * u64::from(revaluation) + 5000) / 10000
 }
 
 // Pence times a factor in hundredths.
@@ -79,126 +42,116 @@ fn times(pence: u64, factor: u64) -> u64
     pence * factor
 }
 
-fn item_of(entered: u64, scheme_pays: u64, v: u32, factor: u64) -> Item
-    requires { (entered ≤ 2000000000) × (v ≤ 100000) × (factor ≤ 9999) }
-    ensures { (result.amount ≡ (revalued v entered - scheme_pays) * factor) × (result.excess ≡ ltb (revalued v entered) scheme_pays) × (result.amount ≤ 200000000000000) }
+// A benefit of a line: its part of the item, or none where Scheme Pays exceeds the revalued amount.
+fn item_of(entered: u64, scheme_pays: u64, revaluation: u32, factor: u64) -> Option<u64>
+    requires { (entered ≤ 2000000000) × (revaluation ≤ 100000) × (factor ≤ 9999) }
+    ensures item { result ≡ cond (ltb (revalued revaluation entered) scheme_pays) None (Some ((revalued revaluation entered - scheme_pays) * factor)) }
+    ensures bound { IfSome result (λ item. item ≤ 200000000000000) }
 {
-    let revalued = revalue(entered, v);
-    if revalued < scheme_pays {
-        Item {
-            amount: 0,
-            excess: true,
-        }
-    } else {
-        Item {
-            amount: times(revalued - scheme_pays, factor),
-            excess: false,
-        }
-    }
+    revalue(entered, revaluation)
+        .checked_sub(scheme_pays)
+        .map(|left| times(left, factor))
 }
 
 // What a line's divorce debit comes to on the line's factors.
-fn debit_of(l: Line, v: u32, f: Factors) -> u64
-    requires { LineInRange l × (v ≤ 100000) × Small f }
-    ensures { (result ≡ debit_at v f l) × (result ≤ 600000000000000) }
+fn debit_of(line: &Line, revaluation: u32, factors: &Factors) -> u64
+    requires { LineInRange line.now × (revaluation ≤ 100000) × Small factors.now }
+    ensures { (result ≡ debit_at revaluation factors.now line.now) × (result ≤ 600000000000000) }
 {
-    times(revalue(l.debit_pension, v), f.pension)
-        + times(revalue(l.debit_lump, v), f.lump)
-        + times(revalue(l.debit_survivor, v), f.survivor)
+    times(revalue(line.debit_pension, revaluation), factors.pension)
+        + times(revalue(line.debit_lump, revaluation), factors.lump)
+        + times(revalue(line.debit_survivor, revaluation), factors.survivor)
 }
 
 // The same, worked out only where there is one: few members have one.
-fn debit_if_any(l: Line, v: u32, f: Factors) -> u64
-    requires { LineInRange l × (v ≤ 100000) × Small f }
-    ensures { (result ≡ debit_at v f l) × (result ≤ 600000000000000) }
+fn debit_if_any(line: &Line, revaluation: u32, factors: &Factors) -> u64
+    requires { LineInRange line.now × (revaluation ≤ 100000) × Small factors.now }
+    ensures { (result ≡ debit_at revaluation factors.now line.now) × (result ≤ 600000000000000) }
 {
-    if l.debit_pension + l.debit_lump + l.debit_survivor == 0 {
+    if line.debit_pension + line.debit_lump + line.debit_survivor == 0 {
         return 0;
     }
-    debit_of(l, v, f)
+    debit_of(line, revaluation, factors)
 }
 
-// The totals of one line.
-fn line_totals(l: Line, v: u32, f: Factors, missing: bool) -> Totals
-    requires { LineInRange l × (v ≤ 100000) × Small f }
-    ensures { TotalsAt v f l missing result }
+// The totals of one line, on the factors of its row.
+fn line_totals(line: &Line, revaluation: u32, row: Option<Factors>) -> Totals
+    requires { LineInRange line.now × (revaluation ≤ 100000) × Small (found row) }
+    ensures { TotalsBy row revaluation line.now result }
 {
-    let pension = item_of(l.pension + l.additional, l.scheme_pays, v, f.pension);
-    let lump = item_of(l.lump, l.scheme_pays_lump, v, f.lump);
-    let survivor = item_of(l.survivor + l.dependant, 0, v, f.survivor);
+    let factors = row.unwrap_or_default();
+    let pension = item_of(
+        line.pension + line.additional,
+        line.scheme_pays,
+        revaluation,
+        factors.pension,
+    );
+    let lump = item_of(line.lump, line.scheme_pays_lump, revaluation, factors.lump);
+    let survivor = item_of(
+        line.survivor + line.dependant,
+        0,
+        revaluation,
+        factors.survivor,
+    );
     Totals {
-        pension: pension.amount,
-        lump: lump.amount,
-        survivor: survivor.amount,
-        deduction: l.modification * f.deduction,
-        debit: debit_if_any(l, v, f),
-        absent: missing,
-        excess: pension.excess | lump.excess,
+        pension: pension.unwrap_or(0),
+        lump: lump.unwrap_or(0),
+        survivor: survivor.unwrap_or(0),
+        deduction: line.modification * factors.deduction,
+        debit: debit_if_any(line, revaluation, &factors),
+        absent: row.is_none(),
+        excess: pension.is_none() || lump.is_none(),
     }
 }
 
 // The same by the line's row in a table.
-fn totals_by_row(table: Table, age: u16, guarantee: Date, v: u32, l: Line) -> Totals
-    requires { LineInRange l × (v ≤ 100000) }
-    ensures { TotalsBy (row_in table age (years_ahead guarantee l.date)) v l result }
+fn totals_by_row(table: Table, age: u16, guarantee: Date, revaluation: u32, line: &Line) -> Totals
+    requires { LineInRange line.now × (revaluation ≤ 100000) }
+    ensures { TotalsBy (row_in table age (years_ahead guarantee line.now.date)) revaluation line.now result }
 {
-    let row = row_in(table, age, calendar::years_ahead(guarantee, l.date));
-    line_totals(l, v, found_or_zero(row), is_absent(row))
+    let row = table.row(age, calendar::years_ahead(guarantee, line.date));
+    line_totals(line, revaluation, row)
 }
 
-fn plus(a: Totals, b: Totals) -> Totals
-    requires { Bounded 600000000000000 a × Bounded 200000000000000 b }
-    ensures { result ≡ plus_totals a b }
-{
-    Totals {
-        pension: a.pension + b.pension,
-        lump: a.lump + b.lump,
-        survivor: a.survivor + b.survivor,
-        deduction: a.deduction + b.deduction,
-        debit: a.debit + b.debit,
-        absent: a.absent | b.absent,
-        excess: a.excess | b.excess,
+impl Totals {
+    // Not `Add`: what it asks of the two is a `requires` here, and would be a ghost line of the impl.
+    fn plus(&self, line: &Totals) -> Totals
+        requires { Bounded 600000000000000 self.now × Bounded 200000000000000 line.now }
+        ensures { result ≡ plus_totals self.now line.now }
+    {
+        Totals {
+            pension: self.pension + line.pension,
+            lump: self.lump + line.lump,
+            survivor: self.survivor + line.survivor,
+            deduction: self.deduction + line.deduction,
+            debit: self.debit + line.debit,
+            absent: self.absent || line.absent,
+            excess: self.excess || line.excess,
+        }
     }
 }
 
 // The totals over all lines; those past the count add nothing.
-pub(crate) fn case_totals(c: Case) -> Totals
-    requires { WellFormed c }
-    ensures { TotalsBelow c 4 result }
+pub(crate) fn case_totals(formed: &FormedCase<'_>) -> Totals
+    ensures { TotalsBelow formed.now.case.now 4 result }
 {
-    let rules = rules_of(c.kind);
-    let table = rules.table;
-    let age = calendar::age(c.birth, c.guarantee);
-    let mut sum = Totals {
-        pension: 0,
-        lump: 0,
-        survivor: 0,
-        deduction: 0,
-        debit: 0,
-        absent: false,
-        excess: false,
-    };
-    let mut i: u8 = 0;
-    while i < c.count {
-        let k = i as usize;
-        let l = c.lines[k];
-        sum = plus(
-            sum,
-            totals_by_row(table, age, c.guarantee, c.revaluation, l),
-        );
-        i += 1;
+    let case = formed.case;
+    let table = rules_of(case.kind).table;
+    let age = calendar::age(case.birth, case.guarantee);
+    let mut totals = Totals::default();
+    for line in case.counted_lines() {
+        let of_line = totals_by_row(table, age, case.guarantee, case.revaluation, line);
+        totals = totals.plus(&of_line);
     }
-    sum
+    totals
 }
 
-// The signed total of what is added and what is taken off.
-pub(crate) fn take_off(credit: u64, deduction: u64) -> Rest
-    requires { (credit < 2 ^ 62) × (deduction < 2 ^ 62) }
-    ensures { result ≡ rest_of credit deduction }
+// What is left of what is added when the deduction is taken off, by the signed difference in 64 bits that 01 names: refusal 14 where
+// that is below zero. Both are below 2 ^ 62, so `as` loses nothing.
+pub(crate) fn left_of(added: u64, deduction: u64) -> Result<u64, Refusal>
+    requires { (added < 2 ^ 62) × (deduction < 2 ^ 62) }
+    ensures { result ≡ rest_of added deduction }
 {
-    let total: i64 = (credit as i64) - (deduction as i64);
-    if total < 0 {
-        return Rest::Below;
-    }
-    Rest::Left(total as u64)
+    let total = added as i64 - deduction as i64;
+    u64::try_from(total).map_err(|_| Refusal::Negative)
 }

@@ -1,8 +1,7 @@
 -- The version.
 -- Assumes nothing.
-use Rattle.std.specs.Prelude.{ℕ, ◌/◌, ◌%◌, List, ◌++◌}
+use Rattle.std.specs.Prelude.{ℕ, ◌/◌, ◌%◌, List, ◌++◌, codes}
 use Rattle.buffers.specs.Decimal.{decimal}
-use Rattle.buffers.specs.Text.{ascii}
 
 -- the first of its three numbers times 10,000, the second times 100, and the third
 abbrev pub version_number : ℕ
@@ -11,10 +10,10 @@ version_number = 10000
 -- the line that `values --version` prints
 unfoldable pub version_line : List ℕ
 version_line =
-    ascii "values " ++
+    codes "values " ++
     decimal (version_number / 10000) ++
-    ascii "." ++
+    codes "." ++
     decimal (version_number / 100 % 100) ++
-    ascii "." ++
+    codes "." ++
     decimal (version_number % 100) ++
-    ascii "\n"
+    codes "\n"

@@ -4,32 +4,35 @@
 ghost use Rattle.std.specs.Prelude.{◌≡◌, ◌++◌, ◌≤◌, length, drop};
 ghost use Rattle.version.specs.Version.{version_number, version_line};
 
-use buffers::{put, put_decimal};
+use buffers::Text;
 
-// The first of its three numbers times 10,000, the second times 100, and the third: 1.2.3 is 10203.
+// The first of its three numbers times 10,000, the second times 100, and the third, summed: 1.2.3 is 10203.
 const VERSION: u32 = 10000;
 
-// What the version line is written to.
+/// What the version line is formed in.
 pub type Line = [u8; 32];
 
+/// The version as a number.
 pub fn version_number() -> u32
     ensures { result ≡ version_number }
 {
     VERSION
 }
 
-// Forms the version line at the start of out, and answers its length.
+/// Forms the version line at the start of `out`; the answer is its length in bytes.
 pub fn form_version(out: &mut Line) -> usize
     ensures answer { result ≡ length version_line }
     ensures bytes { out.new ≡ version_line ++ drop (length version_line) out.old }
     ensures room { result ≤ 32 }
 {
-    let n = VERSION as u64;
-    let a = put(out, 0, b"values ");
-    let b = put_decimal(out, a, n / 10000);
-    let d = put(out, b, b".");
-    let e = put_decimal(out, d, n / 100 % 100);
-    let f = put(out, e, b".");
-    let g = put_decimal(out, f, n % 100);
-    put(out, g, b"\n")
+    let n = u64::from(VERSION);
+    let mut line = Text::new(out, 0);
+    line.put(b"values ");
+    line.put_decimal(n / 10_000);
+    line.put(b".");
+    line.put_decimal(n / 100 % 100);
+    line.put(b".");
+    line.put_decimal(n % 100);
+    line.put(b"\n");
+    line.length()
 }

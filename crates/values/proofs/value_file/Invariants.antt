@@ -1,15 +1,26 @@
--- While something is wanted, less is left to read. And while it goes on, there are bytes done of which what was written so far, what the
--- last step formed included, is the report.
-use Rattle.std.proofs.Common.{◌≡◌, ℕ, ◌+◌, ◌%◌, ◌<◌, ◌≤◌, min, List, ◌++◌, take}
-use Rattle.runs.specs.Run.{left}
+-- While something is wanted, less is left to read; the bytes done were read, and what was written is the report of those. When nothing
+-- is wanted any more, it is the report of the whole file. Where a read or a write failed, it is the start of it.
+use Rattle.std.proofs.Common.{◌≡◌, ℕ, ◌+◌, ◌%◌, ◌<◌, ◌≤◌, min, List, ◌++◌, length, Err, IfSome, IsOk}
+use Rattle.std.specs.declared.io.Error.{Error}
+use Rattle.std.specs.Io.{StartsWith}
+use Rattle.std.specs.Io.KnownBytes.{Appends, Consumes}
+use Rattle.runs.specs.declared.Counts.{Counts}
+use Rattle.runs.specs.Run.{left, report_of}
 use Rattle.runs.specs.Steps.{Reported}
+use Rattle.values.specs.declared.failure.Failure.TheVariants.{Input}
+use Rattle.values.proofs.Report.{Going}
 use Rattle.values.proofs.value_file.Given as goal
 
 abbrev pub invariant-loop-run : goal.invariant-loop-run
 invariant-loop-run g l = record {
   wanted : (l.run.wanted ≤ 65536) × (l.run.wanted % 512 ≡ 0);
-  room : (l.run.held < 512) × (l.run.length ≤ 33024);
-  going : 0 < l.run.wanted → (done : List ℕ) × (written : List ℕ) × Reported done l.run.counts (written ++ take l.run.length l.out);
+  held : l.run.held < 512;
+  going : IsOk l.outcome → 0 < l.run.wanted → Going (g.R.Read.remaining l.fn.reader) (g.R.Read.remaining l.reader) (g.W.Write.contents l.fn.writer) (g.W.Write.contents l.writer) l.run l.input;
+  whole : IsOk l.outcome → l.run.wanted ≡ 0 → IfSome (g.R.Read.remaining l.fn.reader) (λ file. Appends (g.W.Write.contents l.fn.writer) (g.W.Write.contents l.writer) (report_of file));
+  start : IfSome (g.R.Read.remaining l.fn.reader) (λ file. (written : List ℕ) × StartsWith (report_of file) written × Appends (g.W.Write.contents l.fn.writer) (g.W.Write.contents l.writer) written);
+  cut : (error : Error) → l.outcome ≡ Err (Input error)
+      → (done : List ℕ) × (part : List ℕ) × (counts : Counts) × (written : List ℕ) × Consumes (g.R.Read.remaining l.fn.reader) (g.R.Read.remaining l.reader) (done ++ part)
+      × (length part < 512) × Reported done counts written × Appends (g.W.Write.contents l.fn.writer) (g.W.Write.contents l.writer) written;
 }
 
 abbrev pub decreases-loop-run : goal.decreases-loop-run

@@ -2,6 +2,6 @@
 use Rattle.buffers.proofs.Writing.{if_room, ◌then◌}
 use Rattle.report.proofs.parts.put_item.Goals as goal
 
-pub returns : goal.returns
-returns c =
-    if_room c.put-a.ensures.bytes c.put-a.ensures.stop then if_room c.put_fixed_point.ensures.bytes c.put_fixed_point.ensures.stop
+pub returns-clause-text : goal.returns-clause-text
+returns-clause-text c =
+    if_room c.put.ensures.bytes c.put.ensures.stop then if_room c.put_fixed_point.ensures.bytes c.put_fixed_point.ensures.stop

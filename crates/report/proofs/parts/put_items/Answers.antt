@@ -3,14 +3,14 @@ use Rattle.buffers.proofs.Writing.{if_room, ◌then◌}
 use Rattle.report.specs.Lines.{paid_text}
 use Rattle.report.proofs.parts.put_items.Goals as goal
 
-pub returns : goal.returns
+pub returns-clause-text : goal.returns-clause-text
 unfolding paid_text
-returns c =
-    c.put_item-a.ensures then
-    c.put_item-b.ensures then
-    c.put_item-d.ensures then
-    c.put_item-e.ensures then
-    c.put_item-f.ensures then
-    c.put_item-g.ensures then
-    c.put_item-h.ensures then
+returns-clause-text c =
+    c.put_item.ensures.text then
+    c.put_item-2.ensures.text then
+    c.put_item-3.ensures.text then
+    c.put_item-4.ensures.text then
+    c.put_item-5.ensures.text then
+    c.put_item-6.ensures.text then
+    c.put_item-7.ensures.text then
     if_room c.put.ensures.bytes c.put.ensures.stop

@@ -3,11 +3,12 @@ use Rattle.buffers.proofs.Writing.{if_room, ◌then◌}
 use Rattle.report.specs.Lines.{refused_text}
 use Rattle.report.proofs.parts.put_refusal.Goals as goal
 
-pub returns : goal.returns
+pub returns-clause-text : goal.returns-clause-text
 unfolding refused_text
-returns c =
-    if_room c.put-a.ensures.bytes c.put-a.ensures.stop then
-    if_room (rw c.refusal_number.ensures at c.put_decimal-b.ensures.bytes) (rw c.refusal_number.ensures at c.put_decimal-b.ensures.stop) then
-    if_room c.put-d.ensures.bytes c.put-d.ensures.stop then
-    if_room c.put_name-e.ensures.bytes c.put_name-e.ensures.stop then
-    if_room c.put.ensures.bytes c.put.ensures.stop
+returns-clause-text c =
+    rw (c.from.ensures, c.number.ensures, c.as_bytes.ensures.value, c.name.ensures) at
+    (if_room c.put.ensures.bytes c.put.ensures.stop then
+    if_room c.put_decimal.ensures.bytes c.put_decimal.ensures.stop then
+    if_room c.put-2.ensures.bytes c.put-2.ensures.stop then
+    if_room c.put-3.ensures.bytes c.put-3.ensures.stop then
+    if_room c.put-4.ensures.bytes c.put-4.ensures.stop)

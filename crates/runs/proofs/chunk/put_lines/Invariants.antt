@@ -1,10 +1,12 @@
-use Rattle.std.proofs.Common.{◌-◌, length}
+use Rattle.std.proofs.Common.{◌≡◌}
+use Rattle.std.specs.Slice.Iter.{chunks_rest, chunks_size}
 use Rattle.runs.proofs.Turns.{Going}
 use Rattle.runs.proofs.chunk.put_lines.Given as goal
 
-abbrev pub invariant-loop-at : goal.invariant-loop-at
-invariant-loop-at l =
-    Going l.input l.initial.out l.initial.blocks l.initial.paid l.out l.blocks l.paid l.at l.used
-
-abbrev pub decreases-loop-at : goal.decreases-loop-at
-decreases-loop-at l = length l.input - l.at
+abbrev pub invariant-loop-block : goal.invariant-loop-block
+invariant-loop-block l = record {
+  next : (goal.iterator-loop-block).can_next l.block-iterator;
+  finite : (goal.iterator-loop-block).is_finite l.block-iterator;
+  size : chunks_size l.block-iterator ≡ 512;
+  going : Going l.input l.initial.out l.fn.counts (chunks_rest l.block-iterator) l.out l.blocks l.paid l.length;
+}

@@ -1,25 +1,36 @@
 -- `step` meets its contract.
-use Rattle.std.proofs.Common.{◌-◌, min, ◌≡◌, ap, ◌∙◌, arith, length, rules}
+use Rattle.std.proofs.Common.{◌≤◌, min, ◌≡◌, ◌++◌, ap, ◌∙◌, arith, length, length-take, take, drop, rules}
 use Rattle.buffers.proofs.Writing.{from_start}
 use Rattle.runs.specs.Run.{wanted_after}
-use Rattle.runs.specs.Steps.{bytes_taken}
-use Rattle.runs.proofs.Parts.{none_lost}
-use Rattle.runs.proofs.Steps.{front, step_made, step_continues, left_less, wanted_whole}
+use Rattle.runs.specs.Steps.{bytes_taken, came, last_part}
+use Rattle.runs.proofs.Parts.{length_last, none_lost, take_came, part_kept}
+use Rattle.runs.proofs.Steps.{came_length, front, step_made, step_continues, left_less, wanted_whole}
 use Rattle.runs.proofs.run.step.Goals as goal
 
 pub returns : goal.returns
 returns c =
-    let full : length c.args.input.now ≡ 65536 = search rules in
     let t = c.args.counts in
     let input = c.args.input.now in
     let source = c.args.source in
-    let came : c.least-came.result ≡ min c.args.got (wanted_after t) = c.least-came.ensures ∙ ap (min c.args.got) c.wanted_after-want.ensures in
-    let taken : c.bytes_taken-n.result - 0 ≡ bytes_taken source (min c.args.got (wanted_after t)) = omega (arith, c.bytes_taken-n.ensures.0 ∙ ap (bytes_taken source) came) in
-    let m = step_made t input c.args.got source taken c.put_lines-lines.ensures.counts c.wanted_unless-wanted.ensures c.end_follows.ensures c.put_lines-lines.ensures.written c.put_end-length.ensures in
-    let s = from_start m.1.1 in
-    let h = rw came at c.keep_part-held.ensures.answer in
-    let part = rw came at c.keep_part-held.ensures.bytes in
-    let size : length input ≡ 65536 = full in
+    let end = c.min-end.result in
+    let held = c.keep_part-held.result in
+    let ended : end ≡ min (length input) (wanted_after t) = c.min-end.ensures ∙ ap (min (length input)) c.wanted.ensures in
+    let those : take end input ≡ came t input = take_came t input end ended in
+    let count : end ≡ length (came t input) = omega (arith, came_length t input) in
+    let made = step_made t input source (c.bytes_taken.ensures.value ∙ ap (bytes_taken source) count) c.put_lines-lines.ensures.counts c.wanted-wanted.ensures c.ends.ensures c.put_lines-lines.ensures.written c.put_end-length.ensures in
+    let text = from_start made.1.1 in
+    let low : held ≤ end = omega (arith, c.keep_part-held.ensures.answer, length_last (take end input), length-take end input) in
+    let kept : held ≡ length (last_part (came t input)) = c.keep_part-held.ensures.answer ∙ ap (λ l. length (last_part l)) those in
+    let part = ap (λ l. l ++ drop end input) c.keep_part-held.ensures.bytes ∙ part_kept input (last_part (take end input)) end held low (omega arith)
+    ∙ ap (λ l. last_part l ++ drop held input) those in
     let wide : length c.args.out.now ≡ 33024 = search rules in
-    let whole = wanted_whole t input c.args.got source size in
-    record { answer = λ i. record { counts = m.0 i; wanted = m.1.0 i; held = h i; length = s.0 i }; bytes = rw s.0 s.1; file = step_continues t input c.args.got source size m.0 m.1.0 (front _ _ s.0 s.1); part = part; all = λ more. none_lost t input c.args.got source c.put_lines-lines.result.counts (rw c.wanted_unless-wanted.ensures at more) h part; room = ((omega (arith, whole.0, m.1.0), rw m.1.0 whole.1), (c.keep_part-held.ensures.few, omega (arith, m.1.1.room))); less = λ block. rw (m.0, m.1.0) (left_less t input c.args.got source size block) }
+    let whole = wanted_whole t input source in
+    record {
+      answer = λ i. record { counts = made.0 i; wanted = made.1.0 i; held = kept i; length = text.0 i };
+      bytes = rw text.0 text.1;
+      file = step_continues t input source made.0 made.1.0 (front _ _ text.0 text.1);
+      part = part;
+      all = λ more. none_lost t input source c.put_lines-lines.result.counts (rw c.wanted-wanted.ensures at more) kept part;
+      room = ((omega (arith, whole.0, made.1.0), rw made.1.0 whole.1), (c.keep_part-held.ensures.few, omega (arith, made.1.1.room)));
+      less = λ block. rw (made.0, made.1.0) (left_less t input source block);
+    }

@@ -5,10 +5,10 @@ use Rattle.values.proofs.input.fill.Goals as goal
 pub loop-n-preserved : goal.loop-n-preserved
 loop-n-preserved g c = record {
   low = omega arith;
-  high = c.in-Ok.ensures.bound;
+  high = omega (arith, c.in-Ok.ensures.bound, c.in-Ok.ensures.size);
   same = search rules;
   kept = shorter_front _ _ _ _ _ c.loop-n.invariant.low c.in-Ok.ensures.kept c.loop-n.invariant.kept;
-  read = filled_more _ _ _ _ _ _ _ _ c.loop-n.invariant.low (omega (arith, c.in-Ok.ensures.bound, c.requires.room)) c.in-Ok.ensures.kept c.loop-n.invariant.read c.in-Ok.ensures.read;
+  read = filled_more _ _ _ _ _ _ _ _ c.loop-n.invariant.low (omega (arith, c.in-Ok.ensures.bound, c.in-Ok.ensures.size)) c.in-Ok.ensures.kept c.loop-n.invariant.read c.in-Ok.ensures.read;
 }
 
 pub returns-in-Err-clause-kept : goal.returns-in-Err-clause-kept

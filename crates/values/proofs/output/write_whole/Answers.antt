@@ -1,14 +1,24 @@
-use Rattle.std.proofs.Common.{arith, sym, ap, subst, ◌∙◌, ◌≡◌, ◌+◌, ◌-◌, length, take, drop, take-add, ◌++◌}
+use Rattle.std.proofs.Common.{rules, arith, refl, sym, ap, subst, ◌∙◌, ◌≡◌, ◌≤◌, ◌+◌, length, take, drop, take-add, drop-drop, length-drop, take_all, ◌++◌}
 use Rattle.std.proofs.lemmas.List.{take_rest}
 use Rattle.std.specs.Io.KnownBytes.{Appends}
-use Rattle.std.proofs.KnownBytes.{Appends-trans}
+use Rattle.std.proofs.KnownBytes.{Appends-nil, Appends-trans}
 use Rattle.values.proofs.output.write_whole.Goals as goal
 
-pub loop-n-preserved : goal.loop-n-preserved
-loop-n-preserved g c =
+pub loop-rest-init : goal.loop-rest-init
+loop-rest-init g c = (0, omega arith, refl, Appends-nil _)
+
+pub loop-rest-preserved : goal.loop-rest-preserved
+loop-rest-preserved g c =
+    let (n, few, is, wrote) = c.loop-rest.invariant in
     let bytes = c.args.bytes.now in
-    let n = c.loop-n.n in
-    let more = c.in-Ok.more in
-    let joined : take n bytes ++ take more (take (length bytes - n) (drop n bytes)) ≡ take (n + more) bytes =
-    ap (λ l. take n bytes ++ take more l) (take_rest bytes n) ∙ sym (take-add n more bytes) in
-    (omega (arith, c.in-Ok.ensures.bound), subst (Appends _ _) joined (Appends-trans _ _ _ _ _ c.loop-n.invariant.1 c.in-Ok.ensures.bytes))
+    let rest = c.loop-rest.rest.now in
+    let more = c.in_ok-n.n in
+    let room : n + more ≤ length bytes = omega (arith, few, c.in_ok-n.ensures.bound, ap length is, length-drop n bytes) in
+    let joined : take n bytes ++ take more rest ≡ take (n + more) bytes = ap (λ l. take n bytes ++ take more l) is ∙ sym (take-add n more bytes) in
+    (n + more, room, take_rest rest more ∙ ap (drop more) is ∙ drop-drop more n bytes, subst (Appends _ _) joined (Appends-trans _ _ _ _ _ wrote c.in_ok-n.ensures.bytes))
+
+pub returns-clause-whole : goal.returns-clause-whole
+returns-clause-whole g c =
+    let (n, few, is, wrote) = c.loop-rest.invariant in
+    let none : length c.loop-rest.rest.now ≡ 0 = search rules in
+    subst (Appends _ _) (take_all n c.args.bytes.now (omega (arith, few, ap length is, length-drop n c.args.bytes.now))) wrote

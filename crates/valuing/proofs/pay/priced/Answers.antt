@@ -1,24 +1,22 @@
--- `priced` meets its contract.
-use Rattle.std.proofs.Common.{sym, ◌∙◌, arith, lit<}
-use Rattle.numbers.proofs.Rounding.{nearest_half}
-use Rattle.valuing.proofs.Settled.{rest_left, added, below_zero_lem, left_over}
+use Rattle.std.proofs.Common.{cond, Ok, Err, sym, arith}
+use Rattle.refusals.proofs.Order.{passed, passed_number}
+use Rattle.refusals.specs.declared.Refusal.TheVariants.{Negative, Award}
+use Rattle.sums.specs.Rows.{factors_of}
+use Rattle.sums.specs.Sum.{negative_fault, award_fault}
+use Rattle.sums.specs.Payment.{payment}
+use Rattle.answers.specs.Answer.{gross_of}
+use Rattle.valuing.proofs.Ranges.{in_range, head_in_range}
+use Rattle.valuing.proofs.Settled.{items_of_gross}
 use Rattle.valuing.proofs.pay.priced.Goals as goal
 
-pub after_divorce-requires : goal.after_divorce-requires
-after_divorce-requires c =
-    let t = c.args.t in
-    let n = c.in-Left.total in
-    let e = sym c.in-Left.is ∙ c.take_off.ensures in
-    let b = c.requires.1.bounded in (
-      c.requires.0,
-      c.requires.1,
-      c.nearest.ensures ∙ (left_over c.args.c t c.requires.1 n e).1,
-      omega (arith, c.nearest.ensures, nearest_half 100 n (lit< tt), (rest_left (added c.args.c t c.requires.1) t.deduction n e).1),
-    )
+pub overflow_add-result : goal.overflow_add-result
+overflow_add-result c = omega (arith, c.max.ensures, c.in_ok-gross.ensures.bound, c.underpin-underpin.ensures.bound, head_in_range _ (in_range _ c.args.formed.now.formed))
 
-pub returns-in-Below : goal.returns-in-Below
-returns-in-Below c = rw (below_zero_lem c.args.c c.args.t c.requires.1 (sym c.in-Below.is ∙ c.take_off.ensures))
-
-pub returns-in-Left : goal.returns-in-Left
-returns-in-Left c =
-    rw (left_over c.args.c c.args.t c.requires.1 c.in-Left.total (sym c.in-Left.is ∙ c.take_off.ensures)).0 c.after_divorce.ensures
+pub returns : goal.returns
+unfolding payment
+returns c =
+    let case = c.args.formed.now.case.now in
+    let f = factors_of case in
+    let negative = passed (negative_fault f case) Negative (cond (award_fault f case) (Err Award) (Ok (gross_of case))) c.in_ok-gross.ensures.value in
+    let award = passed_number (award_fault f case) Award (gross_of case) (sym negative.1) in
+    rw (← items_of_gross _ _ c.requires, negative.0, award.0, award.1, c.max.ensures, c.underpin-underpin.ensures.sum)

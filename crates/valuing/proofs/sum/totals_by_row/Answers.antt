@@ -1,7 +1,5 @@
--- `totals_by_row` meets its contract.
 use Rattle.factors.proofs.Tables.{small_row}
 use Rattle.valuing.proofs.sum.totals_by_row.Goals as goal
 
 pub line_totals-requires : goal.line_totals-requires
-line_totals-requires c =
-    (c.requires.0, c.requires.1, rw (c.found_or_zero.ensures, c.row_in-row.ensures.row) (small_row c.args.table c.args.age c.years_ahead.result))
+line_totals-requires c = (c.requires.0, c.requires.1, rw c.row-row.ensures.row (small_row c.args.table c.args.age c.years_ahead.result))

@@ -1,19 +1,30 @@
--- `value_amounts` meets its contract.
-use Rattle.std.proofs.Common.{◌≡◌, sym, ◌∙◌}
-use Rattle.refusals.specs.Tests.{first}
+use Rattle.std.proofs.Common.{Ok}
+use Rattle.refusals.specs.declared.Refusal.TheVariants.{Factor, Debit}
+use Rattle.refusals.proofs.Order.{passed, refused, handed_on}
 use Rattle.sums.specs.Sum.{scheme_pays_fault}
 use Rattle.answers.specs.Answer.{factor_fault}
-use Rattle.valuing.proofs.Stages.{earlier, by_earlier, by_total}
+use Rattle.valuing.proofs.Stages.{by_earlier, by_total}
 use Rattle.valuing.proofs.valuation.value_amounts.Goals as goal
 
-pub returns-in-Refused : goal.returns-in-Refused
-unfolding factor_fault scheme_pays_fault
-returns-in-Refused c =
-    let told : c.refuse_if.result ≡ first (earlier c.args.c) = rw (c.refuse_if.ensures.verdict, c.refuse_if-debit.ensures.verdict, c.case_totals-sum.ensures.missing, c.case_totals-sum.ensures.excess) in
-    by_earlier c.args.c c.in-Refused.why (sym told ∙ c.in-Refused.is)
+pub returns-in_err-refuse_if : goal.returns-in_err-refuse_if
+unfolding factor_fault
+returns-in_err-refuse_if c =
+    let factor = refused _ _ c.in_err-refuse_if.ensures.verdict in
+    rw (handed_on _ _ c.from_residual.ensures.1) (by_earlier _ _ (rw (← c.case_totals-totals.ensures.missing, factor.0, factor.1)))
 
-pub returns-in-Passed : goal.returns-in-Passed
+pub returns-in_err-refuse_if-2 : goal.returns-in_err-refuse_if-2
 unfolding factor_fault scheme_pays_fault
-returns-in-Passed c =
-    let told : c.refuse_if.result ≡ first (earlier c.args.c) = rw (c.refuse_if.ensures.verdict, c.refuse_if-debit.ensures.verdict, c.case_totals-sum.ensures.missing, c.case_totals-sum.ensures.excess) in
-    c.priced.ensures ∙ by_total c.args.c (sym told ∙ c.in-Passed.is)
+returns-in_err-refuse_if-2 c =
+    let totals = c.case_totals-totals in
+    let factor = passed totals.result.absent Factor (Ok tt) c.in_ok-refuse_if.ensures.verdict in
+    let debit = refused _ _ c.in_err-refuse_if-2.ensures.verdict in
+    rw (handed_on _ _ c.from_residual-in_err-refuse_if-2.ensures.1)
+    (by_earlier _ _ (rw (← totals.ensures.missing, factor.0, ← totals.ensures.excess, debit.0, debit.1)))
+
+pub returns : goal.returns
+unfolding factor_fault scheme_pays_fault
+returns c =
+    let totals = c.case_totals-totals in
+    let factor = passed totals.result.absent Factor (Ok tt) c.in_ok-refuse_if.ensures.verdict in
+    let debit = passed totals.result.excess Debit (Ok tt) c.in_ok-refuse_if-2.ensures.verdict in
+    rw c.priced.ensures (by_total _ (rw (← totals.ensures.missing, factor.0, ← totals.ensures.excess, debit.0)))
