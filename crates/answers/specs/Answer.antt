@@ -1,6 +1,6 @@
 -- Valuing a case: its refusals in their order, and the payment with its items.
 -- Assumes nothing.
-use Rattle.std.specs.Prelude.{ℕ, Bool, false, List, [], ◌∷◌, ◌++◌, Result, Ok, Err}
+use Rattle.std.specs.Prelude.{ℕ, Bool, false, List, [], ◌∷◌, ◌++◌, Option, Some, None, Result, Ok, Err}
 use Rattle.refusals.specs.Refusals.{number_of}
 use Rattle.refusals.specs.Tests.{Test, ◌gives◌, Verdict, first, NoneOf}
 use Rattle.refusals.specs.declared.Refusal.{Refusal}
@@ -75,7 +75,12 @@ outcome_numbers (Paid m) =
     0 ∷ m.payment ∷ m.pension ∷ m.lump ∷ m.survivor ∷ m.deduction ∷ m.underpin ∷ m.avc ∷ []
 outcome_numbers (Refused r) = number_of r ∷ []
 
--- what an outcome pays
+-- what an outcome pays, if anything
+abbrev pub payment_of : Outcome → Option ℕ
+payment_of (Paid m) = Some m.payment
+payment_of (Refused r) = None
+
+-- and where nothing, 0
 abbrev pub paid : Outcome → ℕ
 paid (Paid m) = m.payment
 paid (Refused r) = 0

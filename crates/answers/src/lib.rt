@@ -3,6 +3,10 @@
 
 mod conversion;
 
+ghost use Rattle.std.specs.Prelude.{◌≡◌};
+ghost use Rattle.std.specs.Option.{unwrap_or};
+ghost use Rattle.answers.specs.Answer.{payment_of, paid};
+
 use refusals::Refusal;
 
 /// The payment and its items: payment, underpin and AVC in pence, the others in hundredths of a penny, over all lines.
@@ -22,6 +26,19 @@ pub struct Items {
 pub enum Outcome {
     Paid(Items),
     Refused(Refusal),
+}
+
+impl Outcome {
+    /// What is paid, in pence, if anything is.
+    pub fn payment(&self) -> Option<u64>
+        ensures answer { result ≡ payment_of self.now }
+        ensures number { unwrap_or result 0 ≡ paid self.now }
+    {
+        match self {
+            Outcome::Paid(items) => Some(items.payment),
+            Outcome::Refused(_) => None,
+        }
+    }
 }
 
 /// An outcome beside the case number, which is 0 where the block could not be read: as 01 has it, since a line is formed of both.

@@ -1,17 +1,9 @@
 -- The laws of the blocks of a file.
 -- Assumes nothing.
-use Rattle.std.proofs.Common.{◌≡◌, ℕ, zero, suc, ◌+◌, ◌-◌, ◌*◌, ◌<◌, ◌≤◌, min, ◌⊎◌, List, [], ◌∷◌, ◌++◌, length, take, drop, sym, refl, ap, ◌∙◌, inl, inr, ⊎_elim, zero-add, add-one, arith, length-drop, take_all, drop-drop}
-use Rattle.std.proofs.Math.Decide.{dec_le}
+use Rattle.std.proofs.Common.{◌≡◌, ℕ, zero, suc, ◌+◌, ◌-◌, ◌*◌, ◌<◌, ◌≤◌, min, List, [], ◌∷◌, ◌++◌, length, take, drop, sym, refl, ap, ◌∙◌, ⊎_elim, zero-add, arith, length-drop, take_all}
 use Rattle.std.proofs.lemmas.Bool.{cases_lt}
 use Rattle.std.proofs.Math.Seq.{take-append-le, drop-append-le}
 use Rattle.blocks.specs.Files.{blocks}
-
-pub split : (n m : ℕ) → (n ≤ m) ⊎ (m < n)
-split n m = by (dec_le n m)
-  where
-    by : Dec (n ≤ m) → (n ≤ m) ⊎ (m < n)
-    by (yes l) = inl l
-    by (no l) = inr (omega arith)
 
 pub length_blocks : (n : ℕ) (s : List ℕ) → length (blocks n s) ≡ n
 unfolding blocks
@@ -36,17 +28,6 @@ blocks_front (suc m) a b e =
     let h : 512 ≤ length a = omega arith in
     let d : 512 * m ≤ length (drop 512 a) = omega (arith, length-drop 512 a) in
     rw (take-append-le 512 a b h, drop-append-le 512 a b h, blocks_front m (drop 512 a) b d)
-
--- one block more
-last_block : (k : ℕ) (s : List ℕ) → blocks (suc k) s ≡ blocks k s ++ (take 512 (drop (512 * k) s) ∷ [])
-unfolding blocks
-last_block zero s = refl
-last_block (suc k) s =
-    let e : 512 + 512 * k ≡ 512 * suc k = omega arith in
-    ap (λ (l : List (List ℕ)). take 512 s ∷ l) (last_block k (drop 512 s) ∙ rw (drop-drop (512 * k) 512 s, e))
-
-pub blocks_more : (k : ℕ) (s : List ℕ) → blocks (k + 1) s ≡ blocks k s ++ (take 512 (drop (512 * k) s) ∷ [])
-blocks_more k s = rw add-one (last_block k s)
 
 -- the bytes from an index to the end of the block that starts there
 pub block_part : (s : List ℕ) (at end : ℕ) → end ≡ min (at + 512) (length s) → at ≤ length s → take (end - at) (drop at s) ≡ take 512 (drop at s)

@@ -10,7 +10,7 @@ unfoldable pub amounts_from : ℕ → List ℕ → ℕ → List ℕ
 amounts_from zero s p = []
 amounts_from (suc n) s p = number_at 8 s p ∷ amounts_from n s (p + 8)
 
--- what stands from index i on are the amounts from there on
+-- what stands from index i on are the amounts from there on; no proof cites the law, docs/PORT.md names it
 abbrev pub ReadFrom : List ℕ → ℕ → ℕ → List ℕ → Type 0
 ReadFrom s at i out = drop i out ≡ amounts_from (length out - i) s (at + 8 * i)
 
@@ -20,7 +20,7 @@ read_all s at out r =
     let n : length out - 0 ≡ length out = omega arith in
     rw (e, n) at r
 
--- the amounts of a line stand one after the other, and so do those of its divorce debit
+-- the amounts of a line stand one after the other, and so do those of its divorce debit; no proof cites these, docs/MAP.md names them
 pub line_amounts : (s : List ℕ) (i : ℕ) → amounts_from 8 s (line_at i + 8) ≡ map (λ a. field_of s (place (amount i a))) amounts_of_line
 unfolding amounts_from
 line_amounts s i = simp add_assoc

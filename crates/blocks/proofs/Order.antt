@@ -25,7 +25,7 @@ pub by_head :
 unfolding head_of case_of case_by reserved_fault range_fault head_reserved_fault head_range_fault dates_range_fault
 by_head s unnamed = refl
 
--- the number that a reading gives
+-- the number that a reading gives; no proof cites it, docs/PORT.md names it
 pub numbered :
     (r : Result Case Refusal) (s : List ℕ) → r ≡ reading_of s → reading_number r ≡ verdict_number (first (reading_tests s))
 unfolding reading_of

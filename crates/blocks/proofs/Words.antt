@@ -71,6 +71,7 @@ cancel x y k p q e = omega arith
 same_modulo : (x y q : ℕ) → x ≡ y + 4294967296 * q → x % 4294967296 ≡ y % 4294967296
 same_modulo x y q e = omega arith
 
+-- no proof cites it, docs/PORT.md names it
 pub taken_off :
     (words odd even r : ℕ) → (even + odd % 16777216 * 256) % 4294967296 ≡ words → r ≡ (even + odd) % 4294967296 →
     (r + 255 * odd) % 4294967296 ≡ words

@@ -2,7 +2,7 @@
 -- Assumes nothing.
 use Rattle.std.proofs.Common.{◌≡◌, ℕ, suc, ◌+◌, ◌-◌, ◌≤◌, false, not, ◌||◌, eqb, List, length, get_or, refl, ap, ◌∙◌, ap₂, arith, eqb-true}
 use Rattle.std.proofs.Math.Path.{fun_ext}
-use borrow.Author.Tests.{not-false}
+use Rattle.std.proofs.lemmas.Bool.{not-false}
 use Rattle.numbers.proofs.Below.{any_false}
 use Rattle.numbers.proofs.Tests.{or_false}
 use Rattle.buffers.specs.Bytes.{number_at}

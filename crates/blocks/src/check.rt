@@ -9,6 +9,7 @@ ghost use Rattle.blocks.specs.Words.{word_sum, odd_bytes, word_at, odd_at, SumsO
 
 use crate::CHECK;
 use crate::column::Column;
+use buffers::bytes_at;
 
 // The bytes that the check is made of: 15 rows of eight words, and seven words.
 type Checked = [u8; CHECK];
@@ -43,12 +44,10 @@ struct WordSums {
     pub odd: Sums,
 }
 
-// The word at an index. `bytes_at` would take its length again: with that test the check takes three in a hundred instructions more.
 fn word_at(b: &Checked, at: usize) -> u32
-    requires { at + 4 ≤ 508 }
     ensures { result ≡ number_at 4 b.now at }
 {
-    u32::from_le_bytes([b[at], b[at + 1], b[at + 2], b[at + 3]])
+    u32::from_le_bytes(bytes_at(b, at))
 }
 
 // The bytes at the odd positions of a word, its second and its fourth, each in one half of a number.
@@ -140,7 +139,7 @@ fn checksum(b: &Checked) -> u32
 }
 
 /// The checksum that a block of these bytes must hold; 0 where there are fewer than 508.
-// A number for any length: `stages_check` hands it to a C program.
+// A number for any length, and no `Option`: a function that could not fail still cannot.
 #[tactic(auto, using(crate::proofs::Words::checksum_short, crate::proofs::Words::checksum_first))]
 pub fn block_checksum(b: &[u8]) -> u32
     ensures { result ≡ block.checksum_or_zero b.now }

@@ -1,7 +1,7 @@
-// Words that stand a stride apart.
+// Words of a block, a stride of bytes apart.
 ghost use Rattle.std.specs.Prelude.{◌+◌, ◌-◌, ◌*◌, ◌≤◌};
 
-// So many of them from a start on, among the bytes that the check is made of.
+// A count of such words, from the byte `start` on. All stand among the bytes that the check is made of.
 #[derive(Clone, Copy, Debug, PartialEq, Eq)]
 pub(crate) struct Column {
     pub start: u16,

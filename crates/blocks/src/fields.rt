@@ -4,22 +4,16 @@ ghost use Rattle.buffers.specs.Bytes.{number_at};
 ghost use Rattle.cases.specs.Entries as entries;
 ghost use Rattle.blocks.specs.Block.{line_of, lines_of, head_of};
 
-use crate::{Block, starts_of};
+use crate::{Block, Place};
 use buffers::bytes_at;
 use calendar::Date;
 use cases::{Case, Line};
 use std::array;
 
-// The check programs take dates apart by lines of their own, so that a mistake here shows there.
 fn date_at(block: &Block, at: usize) -> Date
     ensures { result ≡ entries.date_of (number_at 4 block.now at) }
 {
-    let [year_low, year_high, month, day]: [u8; 4] = bytes_at(block, at);
-    Date {
-        year: u16::from_le_bytes([year_low, year_high]),
-        month,
-        day,
-    }
+    Date::from(bytes_at(block, at))
 }
 
 fn amount_at(block: &Block, at: usize) -> u64
@@ -28,13 +22,12 @@ fn amount_at(block: &Block, at: usize) -> u64
     u64::from_le_bytes(bytes_at(block, at))
 }
 
-// The line at a place, from 0. Here and in `head_of` an offset stands once, beside the field that it is of: a name would say the same.
+// The line at a place. Here and in `head_of` an offset stands once, beside the field that it is of: a name would say the same.
 #[tactic(auto, unfolding(cases::specs::Entries::line_by))]
-pub(crate) fn line_of(block: &Block, place: usize) -> Line
-    requires { place ≤ 3 }
-    ensures { result ≡ line_of block.now place }
+pub(crate) fn line_of(block: &Block, place: Place) -> Line
+    ensures { result ≡ line_of block.now place.index }
 {
-    let (line, debit) = starts_of(place);
+    let (line, debit) = (place.line(), place.debit());
     Line {
         date: date_at(block, line),
         pension: amount_at(block, line + 8),
@@ -81,5 +74,9 @@ pub(crate) fn head_of(block: &Block) -> Case
 pub(crate) fn lines_of(block: &Block) -> [Line; 4]
     ensures { result ≡ lines_of block.now }
 {
-    array::from_fn(|place| line_of(block, place))
+    array::from_fn(
+        |index|
+            requires { index ≤ 3 }
+        { line_of(block, Place { index }) },
+    )
 }

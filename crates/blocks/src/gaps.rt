@@ -4,9 +4,10 @@ ghost use Rattle.numbers.specs.Lists.{any};
 ghost use Rattle.cases.specs.Layout.{◌wide◌, line_at, divorce_debit_at};
 ghost use Rattle.blocks.specs.Block.{nonzero, unnamed_fault};
 
-use crate::{Block, DEBIT_SIZE, LINE_SIZE, starts_of};
+use crate::place::{DEBIT_SIZE, LINE_SIZE};
+use crate::{Block, Place};
 
-// Whether a byte is not zero.
+// Whether one of some bytes is not zero.
 fn nonzero(bytes: &[u8]) -> bool
     ensures { result ≡ any (λ byte. not (byte == 0)) bytes.now }
 {
@@ -19,17 +20,16 @@ fn any_nonzero(parts: &[&[u8]]) -> bool
     parts.iter().any(|part| nonzero(part))
 }
 
-// Whether a byte of the line at a place, from 0, or of its divorce debit is not zero.
-pub(crate) fn line_nonzero(block: &Block, place: usize) -> bool
-    requires { place ≤ 3 }
-    ensures { result ≡ (nonzero block.now (line_at place wide 72) || nonzero block.now (divorce_debit_at place wide 24)) }
+// Whether a byte of the line at a place or of its divorce debit is not zero.
+pub(crate) fn line_nonzero(block: &Block, place: Place) -> bool
+    ensures { result ≡ (nonzero block.now (line_at place.index wide 72) || nonzero block.now (divorce_debit_at place.index wide 24)) }
 {
-    let (line, debit) = starts_of(place);
-    // `|` and no branch: with `||` reading a block takes four in a hundred instructions more.
+    let (line, debit) = (place.line(), place.debit());
+    // `|` and no branch: with `||` a block takes 1.7 in a hundred instructions more.
     nonzero(&block[line..line + LINE_SIZE]) | nonzero(&block[debit..debit + DEBIT_SIZE])
 }
 
-// Whether a byte that no field names is not zero.
+// Whether a byte that no field names is not zero. Each part stands here once: a name would say the same as its offsets.
 pub(crate) fn unnamed_fault(block: &Block) -> bool
     ensures { result ≡ unnamed_fault block.now }
 {

@@ -2,16 +2,14 @@
 ghost use Rattle.std.specs.Prelude.{◌≡◌, ◌≤◌, ◌==◌, not};
 ghost use Rattle.refusals.specs.Tests.{first, verdict_number};
 ghost use Rattle.cases.specs.Layout.{check};
-ghost use Rattle.cases.specs.Entries.{any_line};
-ghost use Rattle.cases.specs.Kinds.{rules_of};
-ghost use Rattle.cases.specs.Form.{line_reserved_fault, line_range_fault, form_tests};
+ghost use Rattle.cases.specs.Form.{lines_faults, form_tests};
 ghost use Rattle.blocks.specs.Block.{field_of, checksum, head_of, case_of, unnamed_fault};
 ghost use Rattle.blocks.specs.Reading.{reading_tests, reading_of, reading_number};
 
 use crate::check::block_checksum;
 use crate::fields::{head_of, line_of, lines_of};
 use crate::gaps::{line_nonzero, unnamed_fault};
-use crate::{Block, CHECK};
+use crate::{Block, CHECK, Place};
 use buffers::bytes_at;
 use cases::{Case, Faults, RuledCase};
 use refusals::{Refusal, refuse_if};
@@ -29,18 +27,16 @@ fn is_damaged(block: &Block) -> bool
 // bytes show that at less cost than its fields. A loop of its own: one with that of `cases` would be handed a closure, and ask of it
 // what each caller promises.
 fn faults_of_lines(block: &Block, head: &RuledCase<'_>) -> Faults
-    ensures reserved { result.reserved ≡ any_line (line_reserved_fault (rules_of head.now.case.now.kind) head.now.case.now.flags head.now.case.now.count) (case_of block.now) }
-    ensures range { result.range ≡ any_line (line_range_fault (rules_of head.now.case.now.kind) head.now.case.now.count) (case_of block.now) }
+    ensures { result ≡ lines_faults head.now.case.now (case_of block.now) }
 {
     let RuledCase { case, rules, .. } = head;
     let mut faults = Faults::default();
-    for place in 0..4 {
-        if usize::from(case.count) <= place && !line_nonzero(block, place) {
+    for index in 0..4 {
+        if usize::from(case.count) <= index && !line_nonzero(block, Place { index }) {
             continue;
         }
-        let of_line = rules.faults_of_line(case.flags, case.count, place, &line_of(block, place));
-        faults.reserved |= of_line.reserved;
-        faults.range |= of_line.range;
+        let line = line_of(block, Place { index });
+        faults = faults | rules.faults_of_line(case.flags, case.count, index, &line);
     }
     faults
 }
@@ -54,7 +50,7 @@ fn check_form(block: &Block, head: &Case) -> Result<(), Refusal>
     ruled.check_form_by(unnamed_fault(block), faults_of_lines(block, &ruled))
 }
 
-/// The case that a block of any length holds, or the first of refusals 1 to 5 that applies.
+/// The case that some bytes hold, if they are a block, or the first of refusals 1 to 5 that applies.
 #[tactic(auto, unfolding(crate::specs::Reading::reading_of, crate::specs::Block::head_of, crate::specs::Block::case_of, cases::specs::Entries::case_by))]
 pub fn read_block(b: &[u8]) -> Result<Case, Refusal>
     ensures reading { result ≡ reading_of b.now }

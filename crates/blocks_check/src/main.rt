@@ -120,6 +120,7 @@ fn read_record<'a, R: Read>(
     Ok(Some(record))
 }
 
+// A loop of its own, as in calendar_check.
 fn print_readings<R: Read>(rt: &impl Print, input: &mut R) -> io::Result<()> {
     let mut buffer = [0u8; LONGEST];
     // Every loop is proved to end, hence a limit.

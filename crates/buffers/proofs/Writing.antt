@@ -1,8 +1,9 @@
 -- The laws of writing a text: over the buffer, the position and the text; and of texts written one after the other.
 -- Assumes nothing.
-use Rattle.std.proofs.Common.{ℕ, suc, ◌+◌, ◌≤◌, ◌<◌, List, [], ◌∷◌, ◌++◌, append_assoc, append-nil, ◌≡◌, refl, sym, ap, ◌∙◌, add-zero, zero-add, arith, length, take, drop, set, length-set, length-append, length-take, length-drop, take-append-drop, take-take, take_at, drop_at, drop-drop, length-take-le, le-leb}
-use Rattle.std.proofs.Math.Seq.{take-append-le, drop-append-le, drop-append-add, take-set-le, set_split}
-use Rattle.buffers.specs.Text.{put_at, put_end, Written, WrittenIfRoom}
+use Rattle.std.proofs.Common.{ℕ, ◌+◌, ◌≤◌, List, [], ◌++◌, append_assoc, append-nil, ◌≡◌, refl, sym, ap, ◌∙◌, add-zero, zero-add, arith, length, take, drop, length-append, length-take, length-drop, take-append-drop, take_at, drop-drop, le-leb}
+use Rattle.std.proofs.Math.Seq.{drop-append-le, drop-append-add}
+use Rattle.buffers.specs.declared.text.Text.{Text}
+use Rattle.buffers.specs.Text.{put_at, put_end, Written, WrittenIfRoom, Puts, PutsIfRoom}
 
 module _ (buffer : List ℕ) (p : ℕ) (text : List ℕ) where
   -- where there is room
@@ -17,40 +18,18 @@ module _ (buffer : List ℕ) (p : ℕ) (text : List ℕ) where
   pub length_put : p + length text ≤ length buffer → length (put_at buffer p text) ≡ length buffer
   length_put h = ap length (put_over h) ∙ simp (length-append, length-take, length-drop) (omega arith)
 
-  -- the text copied over a part of the buffer, of as many bytes
-  pub put_over_part : {k : ℕ} {u : List ℕ} → k ≡ length text → u ≡ text → p + length text ≤ length buffer
-      → take p buffer ++ (u ++ drop k (drop p buffer)) ≡ put_at buffer p text
-  put_over_part size same h =
-      rw (size, same, put_over h, drop-drop (length text) p buffer) (sym (append_assoc (take p buffer) text (drop (p + length text) buffer)))
-
 -- what the promise of writing gives where there is room
 pub if_room : {b t a : List ℕ} {p e : ℕ} → a ≡ put_at b p t → e ≡ put_end b p t → WrittenIfRoom b p t a e
 if_room {b} {t} {a} {p} {e} bytes stop h = let s = stop ∙ put_ends b p t h in record { bytes = bytes; stop = s; room = omega arith }
 
--- the byte after a text, stored before the text is written
-pub put_stored : (b : List ℕ) (p : ℕ) (t : List ℕ) (x : ℕ) → p + length t < length b → put_at (set b (p + length t) x) p t ≡ put_at b p (t ++ (x ∷ []))
-put_stored b p t x h =
-    let n : ℕ = p + length t in
-    let ln : length (take n b) ≡ n = length-take-le n b (omega arith) in
-    let d : drop n (set b n x) ≡ x ∷ drop (suc n) b = ap (drop n) (set_split b n x h) ∙ drop_at (take n b) (x ∷ drop (suc n) b) n ln in
-    let s : p + length (t ++ (x ∷ [])) ≡ suc n = omega (arith, length-append t (x ∷ [])) in
-    rw (put_over (set b n x) p t (simp length-set (omega arith)), put_over b p (t ++ (x ∷ [])) (omega arith), take-set-le p b n x (omega arith), d, s)
-    (simp append_assoc)
-
 pub put_empty : (b : List ℕ) (p : ℕ) → p ≤ length b → put_at b p [] ≡ b
 put_empty b p h = put_over b p [] (omega arith) ∙ rw (append-nil, add-zero, take-append-drop)
-
--- one byte stored
-pub put_byte : (b : List ℕ) (p x : ℕ) → p < length b → set b p x ≡ put_at b p (x ∷ [])
-put_byte b p x h =
-    let s = put_stored b p [] x (omega arith) in
-    sym (put_empty (set b p x) p (simp length-set (omega arith))) ∙ (rw add-zero at s)
 
 pub written_length : {b t a : List ℕ} {p e : ℕ} → Written b p t a e → length a ≡ length b
 written_length {b} {t} {a} {p} {e} w = let s = w.stop in let r = w.room in ap length w.bytes ∙ length_put b p t (omega arith)
 
 -- two texts of which the second starts where the first ends
-put_put : (b : List ℕ) (p : ℕ) (t u : List ℕ) → p + length t + length u ≤ length b
+pub put_put : (b : List ℕ) (p : ℕ) (t u : List ℕ) → p + length t + length u ≤ length b
     → put_at (put_at b p t) (p + length t) u ≡ put_at b p (t ++ u)
 put_put b p t u h =
     let n : ℕ = p + length t in
@@ -65,21 +44,6 @@ put_put b p t u h =
     rw (e, put_over (front ++ rest) n u (omega arith), put_over b p (t ++ u) (omega arith), take_at front rest n lf, d)
     (ap (λ (l : List ℕ). l ++ drop (p + length (t ++ u)) b) (append_assoc (take p b) t u))
 
--- and the same where the second is written first
-pub put_back : (b : List ℕ) (p : ℕ) (t u : List ℕ) → p + length t + length u ≤ length b
-    → put_at (put_at b (p + length t) u) p t ≡ put_at b p (t ++ u)
-put_back b p t u h =
-    let n : ℕ = p + length t in
-    let front : List ℕ = take n b in
-    let rest : List ℕ = drop (n + length u) b in
-    let lf : length front ≡ n = length-take-le n b (omega arith) in
-    let e : put_at b n u ≡ front ++ (u ++ rest) = put_over b n u (omega arith) ∙ append_assoc front u rest in
-    let le : length (front ++ (u ++ rest)) ≡ length b = sym (ap length e) ∙ length_put b n u (omega arith) in
-    let f : take p (front ++ (u ++ rest)) ≡ take p b = take-append-le p front (u ++ rest) (omega arith) ∙ take-take p n b (omega arith) in
-    let s : p + length (t ++ u) ≡ n + length u = omega (arith, length-append t u) in
-    rw (e, put_over (front ++ (u ++ rest)) p t (omega arith), put_over b p (t ++ u) (omega arith), f, drop_at front (u ++ rest) n lf, s)
-    (simp append_assoc)
-
 -- a text and then another from its end on are the two in a row
 pub then_written : {b m a : List ℕ} {p e e' : ℕ} {t u : List ℕ} → Written b p t m e → Written m e u a e' → Written b p (t ++ u) a e'
 then_written {b} {m} {a} {p} {e} {e'} {t} {u} v w =
@@ -93,12 +57,22 @@ then_written {b} {m} {a} {p} {e} {e'} {t} {u} v w =
       room = omega arith;
     }
 
-infixl 4 ◌then◌
-pub ◌then◌ : {b m a : List ℕ} {p e e' : ℕ} {t u : List ℕ} → WrittenIfRoom b p t m e → WrittenIfRoom m e u a e' → WrittenIfRoom b p (t ++ u) a e'
-◌then◌ {t = t} {u = u} v w h =
+both_if_room : {b m a : List ℕ} {p e e' : ℕ} {t u : List ℕ} → WrittenIfRoom b p t m e → WrittenIfRoom m e u a e' → WrittenIfRoom b p (t ++ u) a e'
+both_if_room {t = t} {u = u} v w h =
     let long = length-append t u in
     let first = v (omega arith) in
     then_written first (w (omega (arith, first.stop, written_length first)))
+
+-- the same of a text under construction
+pub puts_if_room : {b a : Text} {t : List ℕ} → Puts b t a → PutsIfRoom b t a
+puts_if_room w = record { same_reference = w.same_reference; written = if_room w.bytes w.stop }
+
+pub then_puts : {b m a : Text} {t u : List ℕ} → PutsIfRoom m u a → PutsIfRoom b t m → PutsIfRoom b (t ++ u) a
+then_puts w v = record { same_reference = w.same_reference ∙ v.same_reference; written = both_if_room v.written w.written }
+
+infixl 4 ◌then◌
+pub ◌then◌ : {b m a : Text} {t u : List ℕ} → PutsIfRoom b t m → Puts m u a → PutsIfRoom b (t ++ u) a
+v then w = then_puts (puts_if_room w) v
 
 -- what all writing from the start of a buffer leaves
 pub from_start : {b t a : List ℕ} {e : ℕ} → Written b 0 t a e → (e ≡ length t) × (a ≡ t ++ drop (length t) b)

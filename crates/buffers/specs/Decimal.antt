@@ -16,7 +16,8 @@ unfoldable pub digits_within : ℕ → ℕ → List ℕ
 digits_within zero n = []
 digits_within (suc k) n = cond (ltb n 10) (last_digit n) (digits_within k (n / 10) ++ last_digit n)
 
--- n in decimal: it has fewer digits than n + 2
+-- n in decimal: it has fewer digits than n + 2. Not std's word, which goes to 64 digits and no further; of every number of 64 bits both
+-- say the same (the law `decimal_is_std`)
 unfoldable pub decimal : ℕ → List ℕ
 decimal n = digits_within (suc n) n
 

@@ -1,81 +1,61 @@
-// The digits of numbers, also of one with a point, stored from an index of a buffer on. Each function takes the whole buffer and an
-// index: a part of the buffer for each pair of digits would be cut out, and its length tested, anew. `as` loses nothing here: what it
-// is used on is proved to be a digit, or two of them in two bytes.
-ghost use Rattle.std.specs.Prelude.{◌≡◌, ◌+◌, ◌≤◌, ◌<◌, length};
-ghost use Rattle.buffers.specs.Text.{put_at};
+// The digits of numbers, also of one with a point, stored over all of the part of a buffer that is lent. `as` loses nothing here:
+// what it is used on is proved to be a digit, or two of them in two bytes.
+ghost use Rattle.std.specs.Prelude.{◌≡◌, ◌+◌, ◌-◌, ◌^◌, ◌≤◌, ◌<◌, length};
 ghost use Rattle.buffers.specs.Decimal.{last_digits, decimal, fixed_point};
 
-// Two digits, put together in one number of two bytes, so that the compiler stores both at once: an array of the two bytes takes three
-// in a hundred more instructions of all that valuing a file takes.
-fn fill_two_digits(out: &mut [u8], at: usize, n: u64)
+// Two digits, put together in one number of two bytes, so that the compiler stores both at once: made one by one, the bytes take
+// three in a hundred more instructions of all that valuing a file takes.
+#[tactic(auto, using(crate::proofs::Decimal::two_bytes))]
+fn two_digits(n: u64) -> [u8; 2]
     requires small { n < 100 }
-    requires room { at + 2 ≤ length out.old }
-    ensures { out.new ≡ put_at out.old at (last_digits 2 n) }
+    ensures { result ≡ last_digits 2 n }
 {
     let both = (48 + n / 10 + 256 * (48 + n % 10)) as u16;
-    out[at..at + 2].copy_from_slice(&both.to_le_bytes());
+    both.to_le_bytes()
 }
 
-// Not one function with that of two digits: it is two of those, by one division.
-fn fill_four_digits(out: &mut [u8], at: usize, n: u64)
+// Two at a time: an array of the four takes 5 in a hundred more instructions of all that valuing a file takes.
+#[tactic(auto, using(crate::proofs::Decimal::four_of_two))]
+fn fill_four_digits(out: &mut [u8], n: u64)
     requires small { n < 10000 }
-    requires room { at + 4 ≤ length out.old }
-    ensures { out.new ≡ put_at out.old at (last_digits 4 n) }
+    requires room { length out.old ≡ 4 }
+    ensures { out.new ≡ last_digits 4 n }
 {
-    fill_two_digits(out, at + 2, n % 100);
-    fill_two_digits(out, at, n / 100);
+    let (front, back) = out.split_at_mut(2);
+    front.copy_from_slice(&two_digits(n / 100));
+    back.copy_from_slice(&two_digits(n % 100));
 }
 
-// The last of the digits are stored first.
-fn fill_digits(out: &mut [u8], at: usize, n: u64, k: usize)
-    requires { at + k ≤ length out.old }
-    ensures { out.new ≡ put_at out.old at (last_digits k n) }
+// The last of the digits are stored first. By index: no proof knows what was written through `iter_mut().rev()`.
+#[tactic(auto, using(crate::proofs::Decimal::put_digit, crate::proofs::Decimal::put_no_digit))]
+fn fill_digits(out: &mut [u8], n: u64)
+    ensures { out.new ≡ last_digits (length out.old) n }
 {
     let mut rest = n;
-    for i in (0..k).rev() {
-        out[at + i] = b'0' + (rest % 10) as u8;
+    for i in (0..out.len()).rev() {
+        out[i] = b'0' + (rest % 10) as u8;
         rest /= 10;
     }
 }
 
-fn fill_up_to_two_digits(out: &mut [u8], at: usize, n: u64)
+#[tactic(auto, using(crate::proofs::Decimal::up_to_two_digits))]
+fn fill_up_to_two_digits(out: &mut [u8], n: u64)
     requires small { n < 100 }
-    requires room { at + length (decimal n) ≤ length out.old }
-    ensures { out.new ≡ put_at out.old at (decimal n) }
+    requires room { length out.old ≡ length (decimal n) }
+    ensures { out.new ≡ decimal n }
 {
     if n < 10 {
-        out[at] = b'0' + n as u8;
+        out[0] = b'0' + n as u8;
     } else {
-        fill_two_digits(out, at, n);
+        out[..2].copy_from_slice(&two_digits(n));
     }
-}
-
-// The k digits of n: the last of them are stored first, four to a division, until four or fewer are left. The loop goes by what is
-// left of the number; no count of turns is known to go by.
-pub(crate) fn fill_decimal(out: &mut [u8], at: usize, n: u64, k: usize)
-    requires digits { k ≡ length (decimal n) }
-    requires room { at + k ≤ length out.old }
-    ensures { out.new ≡ put_at out.old at (decimal n) }
-{
-    let mut end = at + k;
-    let mut rest = n;
-    while 9999 < rest {
-        end -= 4;
-        fill_four_digits(out, end, rest % 10_000);
-        rest /= 10_000;
-    }
-    if 99 < rest {
-        end -= 2;
-        fill_two_digits(out, end, rest % 100);
-        rest /= 100;
-    }
-    fill_up_to_two_digits(out, at, rest);
 }
 
 // How many decimal digits n has: comparing takes less time than dividing, and most numbers have six or fewer.
-#[tactic(auto, using(crate::proofs::Decimal::length_one))]
-pub(crate) fn count_digits(n: u64) -> usize
-    ensures digits { result ≡ length (decimal n) }
+fn count_digits(n: u64) -> usize
+    ensures some { 1 ≤ result }
+    ensures enough { n < 10 ^ result }
+    ensures fewest { 1 < result → 10 ^ (result - 1) ≤ n }
     ensures bound { result ≤ 20 }
 {
     match n {
@@ -102,24 +82,69 @@ pub(crate) fn count_digits(n: u64) -> usize
     }
 }
 
-// The last d digits of n. Two and four are common, and take less time without the loop.
-fn fill_after_point(out: &mut [u8], at: usize, n: u64, d: usize)
-    requires { at + d ≤ length out.old }
-    ensures { out.new ≡ put_at out.old at (last_digits d n) }
-{
-    match d {
-        2 => fill_two_digits(out, at, n % 100),
-        4 => fill_four_digits(out, at, n % 10_000),
-        _ => fill_digits(out, at, n, d),
+// A number and how many decimal digits it has.
+#[derive(Clone, Copy, Debug, PartialEq, Eq)]
+pub(crate) struct Decimal {
+    number: u64,
+    pub(crate) digits: usize,
+    ghost counted: { digits ≡ length (decimal number) },
+    ghost few: { digits ≤ 20 },
+}
+
+impl Decimal {
+    #[tactic(auto, using(crate::proofs::Decimal::decimal_counted))]
+    pub(crate) fn new(number: u64) -> Decimal
+        ensures { result.number ≡ number }
+    {
+        Decimal {
+            number,
+            digits: count_digits(number),
+        }
+    }
+
+    // The last of the digits are stored first, four to a division, until four or fewer are left. The loop goes by what is left of
+    // the number: for a `for` the turns would have to be counted from the digits first.
+    #[tactic(auto, using(crate::proofs::Decimal::in_fours_and_twos))]
+    pub(crate) fn fill(self, out: &mut [u8])
+        requires { length out.old ≡ self.digits }
+        ensures { out.new ≡ decimal self.number }
+    {
+        let mut end = self.digits;
+        let mut rest = self.number;
+        while 9999 < rest {
+            end -= 4;
+            fill_four_digits(&mut out[end..end + 4], rest % 10_000);
+            rest /= 10_000;
+        }
+        if 99 < rest {
+            end -= 2;
+            out[end..end + 2].copy_from_slice(&two_digits(rest % 100));
+            rest /= 100;
+        }
+        fill_up_to_two_digits(&mut out[..end], rest);
     }
 }
 
-pub(crate) fn fill_fixed_point(out: &mut [u8], at: usize, whole: u64, k: usize, n: u64, d: usize)
-    requires digits { k ≡ length (decimal whole) }
-    requires room { at + k + 1 + d ≤ length out.old }
-    ensures { out.new ≡ put_at out.old at (fixed_point whole d n) }
+// The last digits of n. Two and four are common: with the loop alone valuing a file takes 4 in a hundred more instructions.
+#[tactic(auto, using(crate::proofs::Decimal::last_two, crate::proofs::Decimal::last_four))]
+fn fill_after_point(out: &mut [u8], n: u64)
+    ensures { out.new ≡ last_digits (length out.old) n }
 {
-    fill_decimal(out, at, whole, k);
-    out[at + k] = b'.';
-    fill_after_point(out, at + k + 1, n, d);
+    match out.len() {
+        2 => out.copy_from_slice(&two_digits(n % 100)),
+        4 => fill_four_digits(out, n % 10_000),
+        _ => fill_digits(out, n),
+    }
+}
+
+// Inlined, as the method is that calls it.
+#[tactic(auto, using(crate::proofs::Decimal::over_fixed))]
+#[inline(always)]
+pub(crate) fn fill_fixed_point(out: &mut [u8], whole: Decimal, n: u64)
+    requires { whole.digits < length out.old }
+    ensures { out.new ≡ fixed_point whole.number (length out.old - (whole.digits + 1)) n }
+{
+    whole.fill(&mut out[..whole.digits]);
+    out[whole.digits] = b'.';
+    fill_after_point(&mut out[whole.digits + 1..], n);
 }

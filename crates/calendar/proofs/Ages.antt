@@ -23,6 +23,6 @@ module _ (birth on : Date) where
   pub age_threshold : Threshold (λ n. not (before on (moved_on (suc n) birth))) (age birth on)
   age_threshold = rw age_is counted
 
-  -- and by its test
+  -- and by its test; no proof cites it, docs/PORT.md names it
   pub age_of_lem : {years : ℕ} {birthday : Date} {late less : Bool} → years ≡ on.year - birth.year → birthday ≡ in_year on.year birth → late ≡ before on birthday → (ltb 0 years && late) ≡ less → cond less (years - 1) years ≡ age birth on
   age_of_lem p q r e = grind (arith, age_is)

@@ -15,7 +15,7 @@ pub stays_bytes : (y : ℕ) (d : Date) → Bytes d → Bytes (in_year y d)
 unfolding in_year
 stays_bytes y d b = record { month = grind arith; day = grind arith }
 
--- the date in a year by its test
+-- the date in a year by its test; no proof cites it, docs/PORT.md names it
 pub in_year_of : (y : ℕ) (d : Date) {leap moves : Bool} → leap ≡ is_leap y → (eqb d.month 2 && eqb d.day 29 && not leap) ≡ moves → cond moves (leap_day_in y) (record { year = y; month = d.month; day = d.day }) ≡ in_year y d
 unfolding in_year
 in_year_of y d p e = rw (← e, p)

@@ -1,11 +1,11 @@
 -- The laws of the order of dates.
 -- Assumes nothing.
-use Rattle.std.proofs.Common.{ℕ, ◌<◌, ◌≡◌, refl, true, false, not, arith, ltb, Some}
+use Rattle.std.proofs.Common.{ℕ, ◌<◌, ◌≡◌, refl, true, false, arith, ltb, Some}
 use Rattle.std.proofs.lemmas.Cmp.{on_total, then_total, nat_cmp_total}
 use Rattle.std.specs.Cmp.{IsTotalOrder, Some-then}
-use Rattle.std.specs.Ordering.{nat_cmp, ordering_then, ordering_reverse, is_lt, is_le, partial_le}
+use Rattle.std.specs.Ordering.{nat_cmp, ordering_then, is_lt}
 use Rattle.std.specs.declared.cmp.Ordering.{Ordering}
-use Rattle.std.specs.declared.cmp.Ordering.TheVariants.{Less, Equal, Greater}
+use Rattle.std.specs.declared.cmp.Ordering.TheVariants.{Less}
 use Rattle.calendar.specs.declared.Date.{Date}
 use Rattle.calendar.specs.Dates.{rank, date_cmp, before}
 
@@ -27,15 +27,6 @@ compared d e =
 order_total : IsTotalOrder order
 unfolding order
 order_total = then_total (on_total (λ d. d.year) nat_cmp_total) (then_total (on_total (λ d. d.month) nat_cmp_total) (on_total (λ d. d.day) nat_cmp_total))
-
--- `d <= e`
-pub not_after : (d e : Date) → partial_le date_cmp d e ≡ not (before e d)
-not_after d e = rw (compared d e, compared e d, order_total.antisymm e d) (go (order d e))
-  where
-    go : (o : Ordering) → is_le o ≡ not (is_lt (ordering_reverse o))
-    go Less = refl
-    go Equal = refl
-    go Greater = refl
 
 less : (d e : Date) → before d e ≡ true → order d e ≡ Less
 less d e h = go (order d e) (rw (compared d e) at h)

@@ -1,6 +1,6 @@
 -- Real days of the Gregorian calendar in the years 1900 to 2199, and the order of dates.
 -- Assumes nothing.
-use Rattle.std.specs.Prelude.{ℕ, ◌+◌, ◌*◌, ◌%◌, Bool, cond, not, ◌&&◌, ◌||◌, eqb, leb, Option, Some}
+use Rattle.std.specs.Prelude.{ℕ, ◌+◌, ◌*◌, ◌%◌, Bool, cond, not, ◌&&◌, ◌||◌, eqb, leb, List, slice_index, Option, Some}
 use Rattle.std.specs.Ordering.{nat_cmp, partial_ordering_then, partial_lt}
 use Rattle.std.specs.declared.cmp.Ordering.{Ordering}
 use Rattle.calendar.specs.declared.Date.{Date}
@@ -22,6 +22,10 @@ is_real d = leb 1900 d.year && leb d.year 2199 && leb 1 d.day && leb d.day (days
 -- all of a date is zero
 abbrev pub is_zero : Date → Bool
 is_zero d = eqb d.year 0 && eqb d.month 0 && eqb d.day 0
+
+-- the date in four bytes: its year, low byte first, then month and day
+abbrev pub date_of_bytes : List ℕ → Date
+date_of_bytes bytes = record { year = slice_index bytes 0 + 256 * slice_index bytes 1; month = slice_index bytes 2; day = slice_index bytes 3 }
 
 -- dates are in the order of year, then month, then day
 abbrev pub date_cmp : Date → Date → Option Ordering

@@ -10,13 +10,12 @@ pub(crate) fn is_leap(year: u16) -> bool
     year % 400 == 0 || (year % 100 != 0 && year % 4 == 0)
 }
 
-// The days of a month; 0 where there is no such month. The leap day is added by `&` and a sum, so that the match is a table of
-// constants: a jump by the month is one that the processor cannot foresee, and dates are tested some ten times a block.
+// The days of a month; 0 where there is no such month. The leap day is added, so that the match is a table of constants.
 #[tactic(auto, unfolding(crate::specs::Dates::days_in))]
 fn days_in(year: u16, month: u8) -> u8
     ensures { result ≡ dates.days_in year month }
 {
-    let leap_days = u8::from((month == 2) & is_leap(year));
+    let leap_days = u8::from(month == 2 && is_leap(year));
     let in_common_year = match month {
         2 => 28,
         4 | 6 | 9 | 11 => 30,

@@ -1,6 +1,7 @@
 // Dates: real days, their order, moving on by years, age and years ahead.
 #![tactic(auto)]
 
+mod conversion;
 mod day;
 mod moving;
 

@@ -22,6 +22,7 @@ with_bits : (a : ℕ) (xs : List ℕ) → bit_or a (all_bits xs) ≡ fold bit_or
 with_bits a [] = or_zero_r a
 with_bits a (x ∷ xs) = ap (bit_or a) (sym (with_bits x xs)) ∙ sym (or_assoc a x (all_bits xs)) ∙ with_bits (bit_or a x) xs
 
+-- the bits of a list from its end to its start: of none, and of one member more; no proof cites these, docs/PORT.md names them
 pub bits_past : (xs : List ℕ) → 0 ≡ all_bits (drop (length xs) xs)
 bits_past xs = rw (drop-length xs)
 

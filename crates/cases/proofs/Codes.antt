@@ -1,7 +1,7 @@
 -- Codes are numbered from 1: which are listed, where n is the last. No proof cites these; docs/MAP.md names them.
 -- Assumes nothing.
 use Rattle.std.proofs.Common.{ℕ, ◌≤◌, ◌<◌, true, false, ◌&&◌, ◌≡◌, leb, le-leb}
-use borrow.Author.Tests.{lt-leb}
+use Rattle.std.proofs.lemmas.Bool.{lt-leb}
 
 module _ (n x : ℕ) where
   pub code_listed : 1 ≤ x → x ≤ n → true ≡ (leb 1 x && leb x n)

@@ -1,9 +1,8 @@
 -- What refusals 3 and 4 leave of the lines of a case: at most four, and those past the count are zero. A line of zeros breaks no rule.
 -- Assumes nothing.
 use Rattle.std.proofs.Common.{ℕ, ◌≤◌, ◌<◌, Bool, false, not, ◌&&◌, ◌||◌, List, [], ◌∷◌, ◌≡◌, refl, arith, eqb, leb, leb-true, le-leb, lt-ltb, le-ltb, eqb-true}
-use Rattle.std.proofs.Math.Bool.{and-eq-true_iff, and-true, and-false}
-use mathlib.Core.Bool as bool
-use borrow.Author.Tests.{not-false}
+use Rattle.std.proofs.Math.Bool.{and-eq-true_iff, and-true, and-false, or-false}
+use Rattle.std.proofs.lemmas.Bool.{not-false}
 use Rattle.numbers.specs.Lists.{any, Each}
 use Rattle.numbers.proofs.Tests.{and_right_false, or_false}
 use Rattle.numbers.proofs.Below.{any_false}
@@ -70,7 +69,7 @@ module _ (rules : Rules) (count i : ℕ) (l : Line) where
 
   pub range_past : count ≤ i → line_range_fault rules count i l ≡ any (λ a. too_large (amount_in a l)) amounts
   unfolding line_range_fault
-  range_past h = rw (le-ltb i count h, and-false rules.dated) (bool.or-false (any (λ a. too_large (amount_in a l)) amounts))
+  range_past h = rw (le-ltb i count h, and-false rules.dated) (or-false (any (λ a. too_large (amount_in a l)) amounts))
 
   -- past the count, a line of zeros breaks nothing
   pub zero_faults : (flags : ℕ) → count ≤ i → line_filled l ≡ false → (line_reserved_fault rules flags count i l ≡ false) × (line_range_fault rules count i l ≡ false)

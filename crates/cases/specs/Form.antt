@@ -12,6 +12,7 @@ use Rattle.cases.specs.Kinds.{rules_of}
 use Rattle.cases.specs.declared.Line.{Line}
 use Rattle.cases.specs.declared.Case.{Case}
 use Rattle.cases.specs.declared.Rules.{Rules}
+use Rattle.cases.specs.declared.Faults.{Faults}
 
 -- status: 1 deferred, 2 active, 3 pensioner, 4 pension credit
 abbrev pub status_listed : ℕ → Bool
@@ -82,6 +83,20 @@ unfoldable pub line_range_fault : Rules → ℕ → ℕ → Line → Bool
 line_range_fault rules count i l =
     any (λ a. too_large (amount_in a l)) amounts ||
     (rules.dated && ltb i count && not (is_real l.date))
+
+-- what one or the other breaks
+abbrev pub either : Faults → Faults → Faults
+either f g = record { reserved = f.reserved || g.reserved; range = f.range || g.range }
+
+-- what line i breaks, and what the lines of a case break together, where kind, flags and count are those of `head`
+abbrev pub line_faults : Rules → ℕ → ℕ → ℕ → Line → Faults
+line_faults rules flags count i l = record { reserved = line_reserved_fault rules flags count i l; range = line_range_fault rules count i l }
+
+abbrev pub lines_faults : Case → Case → Faults
+lines_faults head c = record {
+  reserved = any_line (line_reserved_fault (rules_of head.kind) head.flags head.count) c;
+  range = any_line (line_range_fault (rules_of head.kind) head.count) c;
+}
 
 -- dates are real days; the state pension date only with GMP, without which it is zero
 unfoldable pub dates_range_fault : Case → Bool

@@ -1,4 +1,5 @@
-// What the flags say, a number of one byte. Functions of a number, as the flags of a `Case` are one.
+// What the flags say, a number of one byte. Functions of the number and no methods of `Case`: the rules of a line are asked with the
+// flags, and without a case.
 ghost use Rattle.std.specs.Prelude.{◌≡◌};
 ghost use Rattle.cases.specs.Flags as flag;
 

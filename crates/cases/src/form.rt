@@ -8,6 +8,11 @@ use crate::lines::too_large;
 use crate::{Case, Faults, RuledCase};
 use refusals::{Refusal, refuse_if};
 
+// The least revaluation factor that a case may have, and the greatest, in ten-thousandths.
+const LEAST_REVALUATION: u32 = 10_000;
+
+const MOST_REVALUATION: u32 = 100_000;
+
 // Whether the kind is not listed, or does not allow the count of lines.
 #[tactic(auto, unfolding(crate::specs::Form::kind_fault))]
 fn kind_fault(ruled: &RuledCase<'_>) -> bool
@@ -30,7 +35,7 @@ fn head_reserved_fault(ruled: &RuledCase<'_>) -> bool
         || (!rules.sex && case.sex != 0)
 }
 
-// Codes are decided by a match on ranges; one function to a list keeps the tests below flat.
+// Codes are decided by a match on ranges, as 01 has it: one to a list, since each ends at another code.
 fn is_status_listed(status: u8) -> bool
     ensures { result ≡ form.status_listed status }
 {
@@ -63,7 +68,7 @@ fn dates_range_fault(case: &Case) -> bool
 fn is_amount_or_date_out_of_range(case: &Case) -> bool
     ensures { result ≡ (ltb case.now.revaluation 10000 || ltb 100000 case.now.revaluation || form.too_large case.now.avc || form.too_large case.now.transfer || form.too_large case.now.contributions || form.dates_range_fault case.now) }
 {
-    !(10_000..=100_000).contains(&case.revaluation)
+    !(LEAST_REVALUATION..=MOST_REVALUATION).contains(&case.revaluation)
         || too_large(case.avc)
         || too_large(case.transfer)
         || too_large(case.contributions)
@@ -84,6 +89,7 @@ fn head_range_fault(ruled: &RuledCase<'_>) -> bool
 }
 
 impl RuledCase<'_> {
+    // Beside `check_form`, since reading tests the lines in the block, before there is a case with lines.
     /// Refusals 3, 4 and 5 as `check_form` gives them, where it is known already what the lines break: those of the case are not
     /// looked at.
     pub fn check_form_by(&self, unnamed: bool, lines: Faults) -> Result<(), Refusal>
@@ -99,8 +105,8 @@ impl RuledCase<'_> {
     }
 }
 
-/// Refusals 3, 4 and 5 of a case, read or built by hand, beside which a byte of its block that no field names may be other than zero:
-/// the first that applies.
+/// Refusals 3, 4 and 5 of a case, read or built by hand: the first that applies. `unnamed` says whether its block has a byte other than
+/// zero that no field names, which is refusal 4.
 #[tactic(auto, unfolding(crate::specs::Form::reserved_fault, crate::specs::Form::range_fault))]
 pub fn check_form(case: &Case, unnamed: bool) -> Result<(), Refusal>
     ensures verdict { result ≡ first (form.form_tests unnamed case.now) }

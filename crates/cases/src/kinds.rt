@@ -5,6 +5,7 @@ ghost use Rattle.cases.specs.Kinds.{rules_of};
 use crate::Rules;
 use factors::Table;
 
+// A function of the number and no `From`: a number may be anything else too.
 /// The rules of a kind, by its number; of a kind that is not listed, rules that allow no line.
 #[tactic(auto, using(crate::proofs::RowsOfKinds::no_row), unfolding(crate::specs::Kinds::rules_of))]
 pub fn rules_of(kind: u16) -> Rules
@@ -44,7 +45,7 @@ pub fn rules_of(kind: u16) -> Rules
             pension_age: 65,
             table: Table::Section2008,
         },
-        // Rules of no kind, so every number has rules, here and in the definitions, and no test takes an `Option` apart.
+        // Rules of no kind and no `Option`: any number has an answer, as it had, and seven tests go by rules without taking one apart.
         _ => Rules {
             lines: 0,
             dated: false,

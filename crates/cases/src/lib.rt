@@ -33,29 +33,45 @@ pub struct Line {
     pub debit_lump: u64,
 }
 
-/// The fields of a block but its check. A case may be built by hand: nothing is known of its entries. Codes are numbers, not enums: one
-/// that is not listed has a refusal.
+// Codes are numbers, not enums: the comparison of two cases goes over entries as numbers, and each code that is not listed has a
+// refusal. The lines are all four of a block beside their count, not a slice of as many: those past the count have refusals too.
+/// The fields of a block but its check (01, 'The case block'). A case may be built by hand: nothing is known of its entries.
 #[derive(Clone, Copy, Debug, PartialEq, Eq)]
 pub struct Case {
+    /// 1 for the 1995 section, 2 for the 2015 scheme, 3 for the 2008 section.
     pub kind: u16,
+    /// The case number.
     pub number: u32,
+    /// 1 deferred, 2 active, 3 pensioner, 4 pension credit.
     pub status: u8,
+    /// The receiving scheme: 1 defined benefit, 2 defined contribution, 3 overseas.
     pub receiver: u8,
+    /// 1 for a transfer in, 2 for a guaranteed minimum pension, 4 for a Choice Optant, summed.
     pub flags: u8,
+    /// How many of the lines count.
     pub count: u8,
+    /// Qualifying service in complete months.
     pub service: u16,
+    /// 1 male, 2 female.
     pub sex: u8,
     pub birth: Date,
     pub leaving: Date,
+    /// The guarantee date.
     pub guarantee: Date,
+    /// State pension date.
     pub state_pension: Date,
+    /// The revaluation factor in ten-thousandths.
     pub revaluation: u32,
+    /// The voluntary fund in pence.
     pub avc: u64,
+    /// The transfer-in payment in pence.
     pub transfer: u64,
+    /// Own contributions in pence.
     pub contributions: u64,
     pub lines: [Line; 4],
 }
 
+// `dated` and `pension_age` are two, and no `Option` of an age: five tests ask whether lines are dated, and one the age.
 /// What sets a kind of case apart.
 #[derive(Clone, Copy, Debug, PartialEq, Eq)]
 pub struct Rules {
@@ -73,7 +89,7 @@ pub struct Rules {
     pub modification: bool,
     /// Whether the sex is entered.
     pub sex: bool,
-    /// The pension age where the lines are not dated.
+    /// The pension age in years where the lines are not dated.
     pub pension_age: u16,
     /// The notes' table that holds its factors.
     pub table: Table,

@@ -1,14 +1,14 @@
 // What refusals 4 and 5 ask of the lines of a case.
-ghost use Rattle.std.specs.Prelude.{map, length, take, ◌≡◌};
+ghost use Rattle.std.specs.Prelude.{map, length, take, ◌≡◌, ◌||◌};
 ghost use Rattle.numbers.specs.Lists.{any};
 ghost use Rattle.cases.specs.Layout.{amounts};
-ghost use Rattle.cases.specs.Entries.{amount_in, any_line};
-ghost use Rattle.cases.specs.Kinds.{rules_of};
-ghost use Rattle.cases.specs.Form.{filled, too_large, line_filled, lump_allowed, reserved_filled, line_reserved_fault, line_range_fault};
+ghost use Rattle.cases.specs.Entries.{amount_in};
+ghost use Rattle.cases.specs.Form.{filled, too_large, line_filled, lump_allowed, reserved_filled, line_faults, lines_faults, either};
 
 use crate::bits::all_bits;
 use crate::flags::choice_optant_flag;
 use crate::{Case, Faults, Line, RuledCase, Rules};
+use std::ops::BitOr;
 
 // The most pence that an amount may have.
 const LIMIT: u64 = 1_000_000_000;
@@ -32,8 +32,22 @@ fn any_too_large(amounts: &[u64]) -> bool
     LIMIT < all_bits(amounts) && amounts.iter().any(|&pence| too_large(pence))
 }
 
+/// What one or the other breaks.
+impl BitOr for Faults {
+    type Output = Faults;
+
+    ghost bitor_gives = { λ faults others both. both ≡ either faults others };
+
+    fn bitor(self, other: Faults) -> Faults {
+        Faults {
+            reserved: self.reserved || other.reserved,
+            range: self.range || other.range,
+        }
+    }
+}
+
 impl Line {
-    // The amounts, in block order.
+    // The amounts, in block order. The sum names them, and what is asked of all of them goes over this list.
     fn amounts(&self) -> [u64; 11]
         ensures { result ≡ map (λ a. amount_in a self.now) amounts }
     {
@@ -52,7 +66,7 @@ impl Line {
         ]
     }
 
-    fn has_too_large(&self) -> bool
+    fn has_amount_too_large(&self) -> bool
         ensures { result ≡ any (λ a. too_large (amount_in a self.now)) amounts }
     {
         any_too_large(&self.amounts())
@@ -91,19 +105,18 @@ impl Rules {
     /// zeros and breaks nothing, so it is not tested further. Flags and count, and not a `RuledCase`: any rules are answered for.
     #[tactic(auto, using(crate::proofs::PastCount::range_within, crate::proofs::PastCount::range_past), unfolding(crate::specs::Form::line_reserved_fault))]
     pub fn faults_of_line(&self, flags: u8, count: u8, place: usize, line: &Line) -> Faults
-        ensures reserved { result.reserved ≡ line_reserved_fault self.now flags count place line.now }
-        ensures range { result.range ≡ line_range_fault self.now count place line.now }
+        ensures { result ≡ line_faults self.now flags count place line.now }
     {
         if place < usize::from(count) {
             return Faults {
                 reserved: self.is_reserved_filled(flags, place, line),
-                range: line.has_too_large() || (self.dated && !line.date.is_real()),
+                range: line.has_amount_too_large() || (self.dated && !line.date.is_real()),
             };
         }
         let filled = line.is_filled();
         Faults {
             reserved: filled,
-            range: filled && line.has_too_large(),
+            range: filled && line.has_amount_too_large(),
         }
     }
 }
@@ -121,15 +134,12 @@ impl Case {
 impl RuledCase<'_> {
     // What the lines of the case break.
     pub(crate) fn faults_of_lines(&self) -> Faults
-        ensures reserved { result.reserved ≡ any_line (line_reserved_fault (rules_of self.now.case.now.kind) self.now.case.now.flags self.now.case.now.count) self.now.case.now }
-        ensures range { result.range ≡ any_line (line_range_fault (rules_of self.now.case.now.kind) self.now.case.now.count) self.now.case.now }
+        ensures { result ≡ lines_faults self.now.case.now self.now.case.now }
     {
         let RuledCase { case, rules, .. } = self;
         let mut faults = Faults::default();
         for (place, line) in case.lines.iter().enumerate() {
-            let of_line = rules.faults_of_line(case.flags, case.count, place, line);
-            faults.reserved |= of_line.reserved;
-            faults.range |= of_line.range;
+            faults = faults | rules.faults_of_line(case.flags, case.count, place, line);
         }
         faults
     }

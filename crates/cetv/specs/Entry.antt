@@ -4,5 +4,5 @@ use Rattle.std.specs.Prelude.{ℕ, Result}
 use Rattle.std.specs.Result.{result_unwrap_or}
 
 -- the length of the line formed, or 0 for refusal 15
-abbrev pub length_of : {Refusal : Type 0} → Result ℕ Refusal → ℕ
+abbrev pub length_of : {E : Type 0} → Result ℕ E → ℕ
 length_of formed = result_unwrap_or formed 0

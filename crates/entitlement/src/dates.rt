@@ -7,6 +7,16 @@ ghost use Rattle.entitlement.specs.Entitlement as entitlement;
 use calendar::{Date, before_birthday};
 use cases::{Case, Line, RuledCase, gmp_flag};
 
+// The age that line 1 may not be dated before.
+const FIRST_AGE: u16 = 65;
+
+// The first day of the new State pension.
+const NEW_STATE_PENSION: Date = Date {
+    year: 2016,
+    month: 4,
+    day: 6,
+};
+
 // Whether a line after the first is dated on a day or after it.
 fn any_later_line_from(lines: &[Line], day: Date) -> bool
     ensures { result ≡ list_any (λ l. not (before l.date day)) (drop 1 lines.now) }
@@ -39,7 +49,7 @@ fn dated_lines_fault(ruled: &RuledCase<'_>) -> bool
     let case = ruled.case;
     let first = case.lines[0].date;
     ruled.rules.dated
-        && (before_birthday(first, case.birth, 65)
+        && (before_birthday(first, case.birth, FIRST_AGE)
             || any_later_line_from(case.counted_lines(), first))
 }
 
@@ -60,12 +70,7 @@ pub(crate) fn order_fault(ruled: &RuledCase<'_>) -> bool
 pub(crate) fn refer_fault(case: &Case) -> bool
     ensures { result ≡ entitlement.refer_fault case.now }
 {
-    let new_state_pension = Date {
-        year: 2016,
-        month: 4,
-        day: 6,
-    };
-    gmp_flag(case.flags) && case.state_pension < new_state_pension
+    gmp_flag(case.flags) && case.state_pension < NEW_STATE_PENSION
 }
 
 #[tactic(auto, using(crate::proofs::Lines::any_reached))]

@@ -7,7 +7,15 @@ use crate::dates::{age_fault, dates_fault, order_fault, refer_fault};
 use cases::{Case, RuledCase};
 use refusals::{Refusal, refuse_if};
 
-/// Refusals 6 to 11 and 17 of a case, in the order of their lists: the first that applies.
+// The codes that are accepted: of a deferred member, and of a defined benefit scheme.
+const DEFERRED: u8 = 1;
+
+const DEFINED_BENEFIT: u8 = 1;
+
+// The least qualifying service, in complete months.
+const LEAST_SERVICE: u16 = 3;
+
+/// Refusals 6, 17, 7, 8, 9, 11 and 10 of a case, in this order: the first that applies.
 pub fn check_entitlement(case: &Case) -> Result<(), Refusal>
     ensures verdict { result ≡ first (entitlement_tests case.now) }
     ensures number { verdict_number result ≡ verdict_number (first (entitlement_tests case.now)) }
@@ -15,9 +23,9 @@ pub fn check_entitlement(case: &Case) -> Result<(), Refusal>
     let ruled = RuledCase::new(case);
     refuse_if(dates_fault(&ruled), Refusal::Dates)?;
     refuse_if(order_fault(&ruled), Refusal::Order)?;
-    refuse_if(case.status != 1, Refusal::Status)?;
-    refuse_if(case.receiver != 1, Refusal::Receiver)?;
-    refuse_if(case.service < 3, Refusal::Service)?;
+    refuse_if(case.status != DEFERRED, Refusal::Status)?;
+    refuse_if(case.receiver != DEFINED_BENEFIT, Refusal::Receiver)?;
+    refuse_if(case.service < LEAST_SERVICE, Refusal::Service)?;
     refuse_if(age_fault(&ruled), Refusal::Age)?;
     refuse_if(refer_fault(case), Refusal::Refer)
 }

@@ -51,7 +51,8 @@ found_small columns small first rows width table fit key = by_key (leb first key
     by_key true = by_row (slice_get table (key - first)) refl
     by_key false = omega arith
 
--- a key within the table finds its row; one below the first, or past the last, none
+-- a key within the table finds its row; one below the first, or past the last, none; no proof cites the first three laws, which docs/PORT.md
+-- names, nor the last, by which `row_at` keeps the meaning that it had
 module _ (columns : List ℕ → Factors) (first : ℕ) (table : List (List ℕ)) (key : ℕ) where
   pub row_within : {f : Factors} → first ≤ key → key - first < length table → f ≡ columns (get_or table (key - first) []) → Some f ≡ row_at columns first table key
   unfolding row_at
@@ -97,6 +98,6 @@ small_row Section2008 age ahead = found_small four_columns small_four 18 47 4 se
 small_row Scheme2015 age ahead = found_small two_columns small_two 1 50 2 scheme2015_table refl ahead
 small_row NoTable age ahead = omega arith
 
--- rows that are the same are so in numbers
+-- rows that are the same are so in numbers; no proof cites it, docs/PORT.md names it
 pub and_numbers : {r s : Option Factors} → r ≡ s → (r ≡ s) × (row_numbers r ≡ row_numbers s)
 and_numbers e = (e, ap row_numbers e)

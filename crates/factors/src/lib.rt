@@ -24,7 +24,7 @@ pub enum Table {
     /// By years ahead: the 2015 scheme.
     Scheme2015,
     /// A table with no row, for a kind that is not listed.
-    // With it every number has rules, here and in the definitions, and no test takes an `Option` apart.
+    // No `Option` of a table in its place: `row` would answer for fewer tables than it did, and rules of no kind have a table too.
     NoTable,
 }
 
@@ -208,8 +208,8 @@ fn two_columns(row: [u16; 2]) -> Factors
 fn row_for<const N: usize>(table: &[[u16; N]], first: u32, key: u32) -> Option<[u16; N]>
     ensures { result ≡ row_for first table.now key }
 {
-    // `as` loses nothing: a usize has 64 bits, and there is no `From`.
-    table.get(key.checked_sub(first)? as usize).copied()
+    let place = usize::try_from(key.checked_sub(first)?).ok()?;
+    table.get(place).copied()
 }
 
 impl Table {

@@ -105,14 +105,16 @@ fn after_blank(text: &[u8]) -> &[u8] {
 
 // The number of the decimal digits that a text starts with, and what follows them.
 fn number(text: &[u8]) -> Option<(u64, &[u8])> {
-    let mut n: u64 = 0;
-    for (i, &byte) in text.iter().enumerate() {
-        let Some(digit) = char::from(byte).to_digit(10) else {
-            return Some((n, &text[i..]));
-        };
-        n = n.checked_mul(10)?.checked_add(u64::from(digit))?;
-    }
-    Some((n, &[]))
+    let end = text
+        .iter()
+        .position(|byte| !byte.is_ascii_digit())
+        .unwrap_or(text.len());
+    let (digits, rest) = text.split_at(end);
+    let n = digits.iter().try_fold(0u64, |n, &digit| {
+        n.checked_mul(10)?
+            .checked_add(u64::from(char::from(digit).to_digit(10)?))
+    })?;
+    Some((n, rest))
 }
 
 // A figure such as 8.93, after a blank, in hundredths, and what follows it.
@@ -129,20 +131,19 @@ fn hundredths(text: &[u8]) -> Option<(u64, &[u8])> {
 // How many lines with the mark are the table's rows, first to last. One that is not the row that follows the lines before it is
 // printed, so that none is left out or stands twice.
 fn count_rows(rt: &impl Print, table: &Transcribed, mark: u8, text: &[u8]) -> io::Result<u64> {
+    let lines = text
+        .split(|&b| b == b'\n')
+        .filter_map(|line| Some((line, table.after_mark(mark, line)?)));
     let mut agree: u64 = 0;
-    let mut key = table.first;
-    for line in text.split(|&b| b == b'\n') {
-        let Some(row) = table.after_mark(mark, line) else {
-            continue;
-        };
+    for (key, (line, row)) in (table.first..).zip(lines) {
         if table.is_row(key, row) {
             agree = agree.saturating_add(1);
         } else {
-            rt.write_all(b"differs: ")?;
+            print!(rt; "differs: ")?;
+            // The bytes of the line as they are, which need not be text.
             rt.write_all(line)?;
-            rt.write_all(b"\n")?;
+            println!(rt)?;
         }
-        key = key.saturating_add(1);
     }
     Ok(agree)
 }
@@ -166,7 +167,8 @@ fn check(rt: &impl Print, table: &Transcribed, text: &[u8]) -> io::Result<()> {
     println!(rt; "{year}: {found} {} have a row", table.keys)
 }
 
-// Reads until the buffer is full or the input ends, and hands on what came.
+// Reads until the buffer is full or the input ends, and hands on what came. A loop by hand: std reads to the end into a `Vec` alone,
+// and `read_exact` does not tell how many bytes came before the end.
 fn read_start<'a, R: Read>(input: &mut R, buffer: &'a mut [u8]) -> io::Result<&'a [u8]> {
     let mut length = 0;
     while length < buffer.len() {

@@ -44,7 +44,7 @@ of_listed d t x (y ∷ ys) e h = go (d x y) e (of_listed d t x ys)
     go (yes p) e rest = rw p both.0
     go (no q) e rest = rest e both.1
 
--- a test over a list from its end to its start: of none, and of one member more
+-- a test over a list from its end to its start: of none, and of one member more; no proof cites these, docs/PORT.md names them
 pub any_past : (t : ℕ → Bool) (xs : List ℕ) → false ≡ any t (drop (length xs) xs)
 any_past t xs = rw (drop-length xs)
 

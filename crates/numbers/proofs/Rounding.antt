@@ -47,6 +47,6 @@ module _ (d n : ℕ) (p : 0 < d) where
   unfolding nearest
   nearest_down h = div-eq_of_lt-le (d * 2) (omega (arith, whole)) (rw (add-mul, one-mul) (omega (arith, whole)))
 
-  -- and what is up is no more than n
+  -- and what is up is no more than n; no proof cites it, docs/PORT.md names it
   pub up_fits : d ≤ n % d * 2 → n / d + 1 ≤ n
   up_fits h = omega (arith, div-add-mod' n d, mul-le-mul_left (n / d) p)

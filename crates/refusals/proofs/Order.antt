@@ -2,17 +2,18 @@
 -- Assumes nothing.
 use Rattle.std.proofs.Common.{ap, ℕ, Bool, true, false, cond, ◌&&◌, ◌||◌, true≢false, List, [], ◌∷◌, ◌++◌, ◌≡◌, refl, sym, ◌∙◌, arith, eqb, Ok, Err}
 use Rattle.std.specs.Prelude.{Result, IsErrAnd}
+use Rattle.std.specs.Result.{result_and}
 use Rattle.refusals.specs.Refusals.{number_of}
-use Rattle.refusals.specs.Tests.{Test, first, NoneOf, or_else, Verdict, verdict_number}
+use Rattle.refusals.specs.Tests.{Test, first, NoneOf, Verdict, verdict_number}
 use Rattle.refusals.specs.declared.Refusal.{Refusal}
 use Rattle.refusals.proofs.Naming.{numbered}
 
 -- the first of two lists joined
-pub first_append : (a b : List Test) → first (a ++ b) ≡ or_else (first a) (first b)
+pub first_append : (a b : List Test) → first (a ++ b) ≡ result_and (first a) (first b)
 first_append [] b = refl
 first_append (t ∷ a) b = go t.applies (first_append a b)
   where
-    go : (s : Bool) → first (a ++ b) ≡ or_else (first a) (first b) → cond s (Err t.refusal) (first (a ++ b)) ≡ or_else (cond s (Err t.refusal) (first a)) (first b)
+    go : (s : Bool) → first (a ++ b) ≡ result_and (first a) (first b) → cond s (Err t.refusal) (first (a ++ b)) ≡ result_and (cond s (Err t.refusal) (first a)) (first b)
     go true e = refl
     go false e = e
 
@@ -65,7 +66,7 @@ module _ (a b : List Test) (s t : Test) where
       two true false e = refl
       two false y e = refl
 
-      go : (v : Verdict) → first a ≡ v → or_else v (first (s ∷ t ∷ b)) ≡ or_else v (first (t ∷ s ∷ b))
+      go : (v : Verdict) → first a ≡ v → result_and v (first (s ∷ t ∷ b)) ≡ result_and v (first (t ∷ s ∷ b))
       go (Err why) e = refl
       go (Ok tt) e = two s.applies t.applies (unless (first_none a e))
 
@@ -74,9 +75,9 @@ module _ (a b : List Test) (s t : Test) where
       → (first (a ++ (s ∷ t ∷ b)) ≡ Err s.refusal) × (first (a ++ (t ∷ s ∷ b)) ≡ Err t.refusal)
   first_swap_both none p q = (first_past a (s ∷ t ∷ b) none ∙ rw p, first_past a (t ∷ s ∷ b) none ∙ rw q)
 
--- what earlier tests found, else later ones, and the same in numbers: no refusal has number 0
-pub or_else_lem : (v w : Verdict) {r : Verdict} → r ≡ or_else v w
-    → (r ≡ or_else v w) × (verdict_number r ≡ cond (eqb (verdict_number v) 0) (verdict_number w) (verdict_number v))
+-- what earlier tests found, else later ones, and the same in numbers: no refusal has number 0; no proof cites it, docs/PORT.md names it
+pub or_else_lem : (v w : Verdict) {r : Verdict} → r ≡ result_and v w
+    → (r ≡ result_and v w) × (verdict_number r ≡ cond (eqb (verdict_number v) 0) (verdict_number w) (verdict_number v))
 or_else_lem (Ok u) w e = (e, ap verdict_number e)
 or_else_lem (Err why) w e = (e, ap verdict_number e ∙ rw (numbered why))
 
@@ -92,15 +93,7 @@ passed_number s r n e = let p = passed s r (Ok n) e in (p.0, same p.1)
     same : {n m : ℕ} → ◌≡◌ {A = Result ℕ Refusal} (Ok n) (Ok m) → n ≡ m
     same e = cc
 
--- one that answers an error applies, and the error is its refusal
-pub refused : (s : Bool) (r : Refusal) {q : Refusal} → ◌≡◌ {A = Verdict} (Err q) (cond s (Err r) (Ok tt)) → (s ≡ true) × (q ≡ r)
-refused true r e = (refl, same e)
-  where
-    same : {q r : Refusal} → ◌≡◌ {A = Verdict} (Err q) (Err r) → q ≡ r
-    same e = cc
-refused false r e = absurd (let z : ◌≡◌ {A = ℕ} 0 1 = cc in omega arith)
-
--- and `?` hands it on as it is
+-- `?` hands an error on as it is
 pub handed_on : {A : Type 0} (v : Result A Refusal) (r : Refusal) → IsErrAnd v (λ q. q ≡ r) → v ≡ Err r
 handed_on (Ok x) r h = absurd h
 handed_on (Err q) r h = ap Err h

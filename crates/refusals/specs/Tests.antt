@@ -22,11 +22,6 @@ abbrev pub first : List Test → Verdict
 first [] = Ok tt
 first (t ∷ ts) = cond t.applies (Err t.refusal) (first ts)
 
--- what the earlier tests found, else what the later ones did
-abbrev pub or_else : Verdict → Verdict → Verdict
-or_else (Ok u) w = w
-or_else (Err r) w = Err r
-
 -- no test of a list applies
 abbrev pub NoneOf : List Test → Type 0
 NoneOf [] = Unit

@@ -32,29 +32,34 @@ impl Refusal {
         }
     }
 
+    // A part of one text. Of a match with a text in each arm the compiler makes a table of addresses, in a section that can be written,
+    // and the archive is to have none (tests/threads).
     /// Its name, of at most 16 ASCII letters.
     pub fn name(self) -> &'static str
         ensures { result.now ≡ name_of self }
     {
-        match self {
-            Refusal::Length => "length",
-            Refusal::Check => "check",
-            Refusal::Kind => "kind",
-            Refusal::Reserved => "reserved",
-            Refusal::Range => "range",
-            Refusal::Dates => "dates",
-            Refusal::Status => "status",
-            Refusal::Receiver => "receiver",
-            Refusal::Service => "service",
-            Refusal::Refer => "refer",
-            Refusal::Age => "age",
-            Refusal::Factor => "factor",
-            Refusal::Debit => "debit",
-            Refusal::Negative => "negative",
-            Refusal::Buffer => "buffer",
-            Refusal::Award => "award",
-            Refusal::Order => "order",
-        }
+        let names =
+            "lengthcheckkindreservedrangedatesstatusreceiverservicereferagefactordebitnegativebufferawardorder";
+        let (start, end) = match self {
+            Refusal::Length => (0, 6),
+            Refusal::Check => (6, 11),
+            Refusal::Kind => (11, 15),
+            Refusal::Reserved => (15, 23),
+            Refusal::Range => (23, 28),
+            Refusal::Dates => (28, 33),
+            Refusal::Status => (33, 39),
+            Refusal::Receiver => (39, 47),
+            Refusal::Service => (47, 54),
+            Refusal::Refer => (54, 59),
+            Refusal::Age => (59, 62),
+            Refusal::Factor => (62, 68),
+            Refusal::Debit => (68, 73),
+            Refusal::Negative => (73, 81),
+            Refusal::Buffer => (81, 87),
+            Refusal::Award => (87, 92),
+            Refusal::Order => (92, 97),
+        };
+        &names[start..end]
     }
 }
 

@@ -14,7 +14,7 @@ Promise before line after r =
     ((formed_numbers r ≡ formed_numbers (formed_as (length before) line)) ×
     (after ≡ buffer_with before line))
 
--- with too few bytes lent
+-- with too few bytes lent; no proof cites this law or the next, docs/MAP.md names them
 pub refused : (b line : List ℕ) → length b < 256 → Promise b line b (Err Buffer)
 unfolding formed_as buffer_with
 refused b line h = rw (lt-ltb (length b) 256 h) (refl, (refl, refl))

@@ -4,4 +4,4 @@
 mod line;
 mod parts;
 
-pub use line::{form_end, form_header, form_line};
+pub use line::{LINE_ROOM, form_end, form_header, form_line};

@@ -3,7 +3,7 @@
 use Rattle.std.proofs.Common.{ℕ, ◌+◌, ◌-◌, ◌%◌, ◌<◌, ◌≤◌, min, List, ◌++◌, ◌≡◌, sym, ap, ◌∙◌, arith, length, take, drop, length-take, length-drop, take_at, take_all, take-take, take-append-drop, append_assoc, zero-add, ⊎_elim}
 use Rattle.std.specs.List.{copy_within}
 use Rattle.std.proofs.Math.Seq.{drop-append-le}
-use Rattle.blocks.proofs.Files.{split}
+use Rattle.std.proofs.lemmas.Bool.{cases_lt}
 use Rattle.runs.specs.declared.Counts.{Counts}
 use Rattle.runs.specs.declared.Source.{Source}
 use Rattle.runs.specs.declared.Source.TheVariants.{Open, Ended, Failed}
@@ -28,9 +28,9 @@ part_moved bytes after is =
 pub take_came : (t : Counts) (input : List ℕ) (end : ℕ) → end ≡ min (length input) (wanted_after t) → take end input ≡ came t input
 take_came t input end e =
     ⊎_elim
-    (λ (h : length input ≤ wanted_after t). let n : end ≡ length input = omega arith in rw n (take_all (length input) input (omega arith) ∙ sym (take_all (wanted_after t) input h)))
     (λ (h : wanted_after t < length input). let n : end ≡ wanted_after t = omega arith in rw n)
-    (split (length input) (wanted_after t))
+    (λ (h : length input ≤ wanted_after t). let n : end ≡ length input = omega arith in rw n (take_all (length input) input (omega arith) ∙ sym (take_all (wanted_after t) input h)))
+    (cases_lt (wanted_after t) (length input))
 
 -- the bytes after the part are as they were, also past those among which it was
 pub part_kept : (input part : List ℕ) (end held : ℕ) → held ≤ end → end ≤ length input

@@ -10,12 +10,13 @@ use Rattle.report.specs.Lines.{line_of}
 use Rattle.runs.specs.declared.Counts.{Counts}
 use Rattle.blocks.specs.Files.{blocks, block_count, all_blocks}
 use Rattle.runs.specs.Run.{lines, paid_one, paid_in, counted}
-use Rattle.blocks.proofs.Files.{split, length_blocks}
+use Rattle.std.proofs.lemmas.Bool.{cases_lt}
+use Rattle.blocks.proofs.Files.{length_blocks}
 use Rattle.runs.proofs.Forming.{nothing_written}
 use Rattle.runs.proofs.Lines.{paid_few}
 
 -- the pieces into which `chunks(512)` cuts bytes are their blocks: the first of them, and the blocks of the rest
-pub next_block : (bytes block rest : List ℕ) → bytes ≡ block ++ rest → length block ≡ min 512 (length bytes) → 0 < length bytes
+next_block : (bytes block rest : List ℕ) → bytes ≡ block ++ rest → length block ≡ min 512 (length bytes) → 0 < length bytes
     → all_blocks bytes ≡ block ∷ all_blocks rest
 unfolding blocks
 next_block bytes block rest is size some =
@@ -23,13 +24,13 @@ next_block bytes block rest is size some =
     let count : block_count (length bytes) ≡ suc (block_count (length rest)) = omega arith in
     let parts : (take 512 bytes ≡ block) × (drop 512 bytes ≡ rest) =
     ⊎_elim
-    (λ (h : 512 ≤ length bytes).
-    let n : length block ≡ 512 = omega arith in
-    (ap (take 512) is ∙ take_at block rest 512 n, ap (drop 512) is ∙ drop_at block rest 512 n))
     (λ (h : length bytes < 512).
     let none : rest ≡ [] = nil_from_length rest (omega arith) in
     (take_all 512 bytes (omega arith) ∙ is ∙ ap (λ l. block ++ l) none ∙ append-nil block, drop_all 512 bytes (omega arith) ∙ sym none))
-    (split 512 (length bytes)) in
+    (λ (h : 512 ≤ length bytes).
+    let n : length block ≡ 512 = omega arith in
+    (ap (take 512) is ∙ take_at block rest 512 n, ap (drop 512) is ∙ drop_at block rest 512 n))
+    (cases_lt (length bytes) 512) in
     ap (λ (n : ℕ). blocks n bytes) count ∙ ap (λ l. l ∷ blocks (block_count (length rest)) (drop 512 bytes)) parts.0
     ∙ ap (λ l. block ∷ blocks (block_count (length rest)) l) parts.1
 

@@ -4,9 +4,10 @@ ghost use Rattle.buffers.specs.Text.{Written};
 ghost use Rattle.blocks.specs.Files.{all_blocks};
 ghost use Rattle.runs.specs.Run.{lines, paid_one, wanted_after, counted};
 
-use crate::Counts;
 use crate::line::put_line;
+use crate::{BLOCK_SIZE, Counts, OUTPUT_SIZE};
 use answers::Outcome;
+use report::LINE_ROOM;
 use valuing::value_block;
 
 // The counts after a chunk, and how many bytes its lines take.
@@ -23,25 +24,21 @@ fn paid_one(outcome: &Outcome) -> u32
     u32::from(matches!(outcome, Outcome::Paid(_)))
 }
 
-// Values the blocks of a chunk, the last of them maybe shorter than 512 bytes, and forms their lines at the start of out.
+// Values the blocks of a chunk, the last of them maybe a part of one, and forms their lines at the start of out.
+#[tactic(auto, using(crate::proofs::Turns::at_start, crate::proofs::Turns::turn))]
 pub(crate) fn put_lines(input: &[u8], counts: Counts, out: &mut [u8]) -> Lines
     requires few { length input.now ≤ wanted_after counts }
-    requires room { 33024 ≤ length out.old }
+    requires room { OUTPUT_SIZE ≤ length out.old }
     ensures counts { result.counts ≡ counted counts (all_blocks input.now) }
     ensures written { Written out.old 0 (lines (counts.blocks + 1) (all_blocks input.now)) out.new result.length }
-    ensures bound { result.length + 256 ≤ 33024 }
+    ensures bound { result.length + LINE_ROOM ≤ OUTPUT_SIZE }
 {
-    let mut blocks = counts.blocks;
-    let mut paid = counts.paid;
-    let mut length = 0;
-    for block in input.chunks(512) {
+    let mut lines = Lines { counts, length: 0 };
+    for block in input.chunks(BLOCK_SIZE) {
         let answer = value_block(block);
-        blocks += 1;
-        paid += paid_one(&answer.outcome);
-        length = put_line(out, length, blocks, answer);
+        lines.counts.blocks += 1;
+        lines.counts.paid += paid_one(&answer.outcome);
+        lines.length = put_line(out, lines.length, lines.counts.blocks, answer);
     }
-    Lines {
-        counts: Counts { blocks, paid },
-        length,
-    }
+    lines
 }

@@ -1,4 +1,4 @@
-//! The run over a case file: what is read, chunk after chunk, and what is written of it.
+// The run over a case file: what is read, chunk after chunk, and what is written of it.
 #![tactic(auto)]
 
 mod chunk;
@@ -6,13 +6,24 @@ mod line;
 mod part;
 mod run;
 
+pub use blocks::BLOCK_SIZE;
+use report::LINE_ROOM;
 pub use run::{start, step};
 
-/// Room for all that a step takes: 128 blocks.
-pub type Input = [u8; 65536];
+// How many blocks a step takes at most.
+const BLOCKS: usize = 128;
 
-/// What a step writes to: room for the lines of 128 blocks and the end line, at 256 bytes a line.
-pub type Output = [u8; 33024];
+/// How many bytes a step takes at most.
+pub const INPUT_SIZE: usize = BLOCKS * BLOCK_SIZE;
+
+/// How many bytes hold all that a step writes: the lines of its blocks and the end line.
+pub const OUTPUT_SIZE: usize = (BLOCKS + 1) * LINE_ROOM;
+
+/// Room for what a step takes.
+pub type Input = [u8; INPUT_SIZE];
+
+/// Room for what a step writes.
+pub type Output = [u8; OUTPUT_SIZE];
 
 /// What can come after the bytes read so far: more, nothing since the file has ended, or nothing since a read failed.
 #[derive(Clone, Copy, Debug, PartialEq, Eq)]

@@ -5,25 +5,22 @@ ghost use Rattle.runs.specs.Run.{left, wanted_after};
 ghost use Rattle.runs.specs.Steps.{bytes_taken, wanted_unless, ends, came, last_part, start_of, step_of, chunk, step_text, Reported, Continues};
 
 use crate::chunk::put_lines;
-use crate::line::{end_of, put_end};
+use crate::line::put_end;
 use crate::part::keep_part;
-use crate::{Counts, Output, Progress, Source};
+use crate::{BLOCK_SIZE, Counts, INPUT_SIZE, Output, Progress, Source};
 use report::form_header;
-
-// What a step takes at most: 128 blocks.
-const MOST: usize = 65536;
 
 // After so many blocks no more are read.
 const LIMIT: u32 = 1000000;
 
 impl Counts {
-    // How many bytes the next step takes at most. Counts of more paid than read are no run's. `as` loses nothing: `usize` has 64 bits,
-    // and there is no `From`.
+    // How many bytes the next step takes at most. Counts of more paid than read are no run's. `as` loses nothing, as `usize` has 64 bits;
+    // `try_from` would want an answer to an error that cannot be.
     fn wanted(self) -> usize
         ensures { result ≡ wanted_after self }
     {
         if self.paid <= self.blocks {
-            (LIMIT.saturating_sub(self.blocks) as usize * 512).min(MOST)
+            (LIMIT.saturating_sub(self.blocks) as usize * BLOCK_SIZE).min(INPUT_SIZE)
         } else {
             0
         }
@@ -38,7 +35,7 @@ impl Source {
     {
         match self {
             Source::Ended => n,
-            Source::Open | Source::Failed => n - n % 512,
+            Source::Open | Source::Failed => n - n % BLOCK_SIZE,
         }
     }
 
@@ -64,17 +61,17 @@ impl Source {
 }
 
 /// Starts a run: the header is to be written, and the first chunk to be read.
+#[tactic(auto, using(crate::proofs::Forming::line_formed, crate::proofs::Forming::line_stands, crate::proofs::Reports::reported_none))]
 pub fn start(out: &mut Output) -> Progress
     ensures answer { result ≡ start_of }
     ensures bytes { out.new ≡ header ++ drop result.length out.old }
     ensures file { Reported [] result.counts (take result.length out.new) }
 {
-    let formed = form_header(out);
     Progress {
         counts: Counts::default(),
-        wanted: MOST,
+        wanted: INPUT_SIZE,
         held: 0,
-        length: end_of(0, formed),
+        length: form_header(out).unwrap(),
     }
 }
 

@@ -2,7 +2,8 @@
 ghost use Rattle.std.specs.Prelude.{◌≡◌, ◌+◌, ◌*◌, ◌<◌, ◌≤◌};
 ghost use Rattle.blocks.specs.Block.{checksum, checksum_or_zero};
 
-// What a byte adds to the check, at an index below 508: `as` loses nothing, and `try_from` would give an error that cannot be.
+// What a byte adds to the check, at an index below 508: `as` loses nothing, and `try_from` would give an error that cannot be. With
+// `(1..).zip` in place of `enumerate` the loop would need an invariant over what is left of the two.
 fn byte_term(index: usize, byte: u8) -> u32
     requires { index < 508 }
     ensures { (result ≡ (index + 1) * byte) × (result ≤ 129540) }

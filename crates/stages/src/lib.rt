@@ -10,12 +10,11 @@ ghost use Rattle.blocks.specs.Reading.{reading_of};
 ghost use Rattle.valuing.specs.Block.{block_answer};
 ghost use Rattle.answers.specs.Answer.{paid};
 
-use answers::Outcome;
 use blocks::{block_checksum, read_block};
 pub use by_bytes::stages_check_by_bytes;
 use valuing::value_block;
 
-// The checksum of a block.
+/// The checksum that a block of these bytes must hold; 0 where there are fewer than 508.
 #[unsafe(no_mangle)]
 pub extern "C" fn stages_check(block: &[u8]) -> u32
     ensures { result ≡ checksum_or_zero block.now }
@@ -23,7 +22,7 @@ pub extern "C" fn stages_check(block: &[u8]) -> u32
     block_checksum(block)
 }
 
-// The case number of a block that is read, else 0.
+/// The case number of a block that is read, else 0.
 #[unsafe(no_mangle)]
 pub extern "C" fn stages_read(block: &[u8]) -> u32
     ensures { MatchResult (reading_of block.now) (λ case. result ≡ case.number) (λ _. result ≡ 0) }
@@ -31,20 +30,10 @@ pub extern "C" fn stages_read(block: &[u8]) -> u32
     read_block(block).map_or(0, |case| case.number)
 }
 
-// Not one with `paid_one` of `runs`, which asks only whether there is an amount.
-fn amount(outcome: &Outcome) -> u64
-    ensures { result ≡ paid outcome.now }
-{
-    match outcome {
-        Outcome::Paid(items) => items.payment,
-        Outcome::Refused(_) => 0,
-    }
-}
-
-// What is paid on a block, else 0.
+/// What is paid on a block, in pence, else 0.
 #[unsafe(no_mangle)]
 pub extern "C" fn stages_value(block: &[u8]) -> u64
     ensures { result ≡ paid (block_answer block.now).outcome }
 {
-    amount(&value_block(block).outcome)
+    value_block(block).outcome.payment().unwrap_or(0)
 }

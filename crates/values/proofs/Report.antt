@@ -1,9 +1,8 @@
 -- What a run has read and written so far, and how a step goes on from there.
 -- Assumes nothing.
-use Rattle.std.proofs.Common.{rules, ◌≡◌, ℕ, zero, suc, ◌-◌, ◌%◌, ◌≤◌, ◌<◌, List, [], ◌++◌, length, take, drop, None, Some, Ok, Err, IfSome, IfOk, IsOk, IsErr, refl, sym, ap, subst, ◌∙◌, arith, append_assoc, append-nil, length-take, length-take-le, length-drop, length-append, take-take, take_at, take_all, take-append-drop}
+use Rattle.std.proofs.Common.{◌≡◌, ℕ, zero, suc, ◌-◌, ◌%◌, ◌≤◌, ◌<◌, List, [], ◌++◌, length, take, drop, None, Some, IfSome, refl, sym, ap, subst, ◌∙◌, arith, append_assoc, append-nil, length-take, length-take-le, length-drop, length-append, take-take, take_at, take_all, take-append-drop}
 use Rattle.std.proofs.lemmas.List.{drop_all, take-append-le}
-use Rattle.std.specs.Prelude.{Option, Result}
-use Rattle.std.specs.Result.{result_unwrap_or}
+use Rattle.std.specs.Prelude.{Option}
 use Rattle.std.specs.Io.{StartsWith}
 use Rattle.std.specs.Io.KnownBytes.{Appends, Consumes, IsAtEnd}
 use Rattle.std.proofs.KnownBytes.{Appends-trans, Consumes-nil, Consumes-trans}
@@ -31,7 +30,7 @@ reported_begins file next done part text t told read =
     let on = reported_start (part ++ ys) told in
     (on.0, ap report_of (append_assoc done part ys) ∙ on.1))
 
-pub whole_begins : (file : Option (List ℕ)) (text : List ℕ) → IfSome file (λ all. text ≡ report_of all) → Begins file text
+whole_begins : (file : Option (List ℕ)) (text : List ℕ) → IfSome file (λ all. text ≡ report_of all) → Begins file text
 whole_begins None text is = tt
 whole_begins (Some all) text is = ([], sym is ∙ sym (append-nil text))
 
@@ -75,11 +74,6 @@ begins file begun now run input text is told wrote = record {
   read = subst (Consumes file file) (sym (ap (λ (p : Progress). take p.held input) is)) (Consumes-nil file);
   wrote = wrote;
 }
-
-taken_few : (s : Source) (n : ℕ) → bytes_taken s n ≤ n
-taken_few Open n = omega arith
-taken_few Ended n = omega arith
-taken_few Failed n = omega arith
 
 more_wanted : (s : Source) (t : Counts) → 0 < wanted_unless s t → wanted_unless s t ≡ wanted_after t
 more_wanted Open t some = refl
@@ -152,20 +146,22 @@ module _ {file left next begun now : Option (List ℕ)} {run after : Progress} {
           adds.over before.done before.written (rest ++ ys) before.told sound none (λ h. ap (λ l. rest ++ l) (e h) ∙ append-nil rest ∙ none_left h)
           ∙ ap report_of (ap (λ l. before.done ++ l) (sym (append_assoc taken rest ys) ∙ ap (λ l. l ++ ys) parts) ∙ sym (append_assoc before.done bytes ys) ∙ sym r)
 
-  pub step_begins : {E : Type 0} (end : Result Source E) → s ≡ result_unwrap_or end Failed → IfOk end (λ source. source ≡ Failed → ⊥)
-      → IfOk end (λ source. source ≡ Ended → IsAtEnd next) → Begins file (before.written ++ text)
-  step_begins (Err e) is sound ended = reported_begins file next (before.done ++ taken) rest _ _ (adds.broken before.done before.written before.told is) parts_read
-  step_begins (Ok source) is sound ended = by after.wanted refl
+  pub step_begins : (s ≡ Ended → IsAtEnd next) → Begins file (before.written ++ text)
+  step_begins end = by s refl
     where
-      by : (w : ℕ) → after.wanted ≡ w → Begins file (before.written ++ text)
-      by zero none = whole_begins file (before.written ++ text) (ends_whole (λ e. sound (sym is ∙ e)) (λ e. ended (sym is ∙ e)) none)
-      by (suc w) more = reported_begins file next (before.done ++ taken) rest _ _ (adds.going before.done before.written before.told (omega arith)) parts_read
+      reported : (s ≡ Failed → ⊥) → (w : ℕ) → after.wanted ≡ w → Begins file (before.written ++ text)
+      reported sound zero none = whole_begins file (before.written ++ text) (ends_whole sound end none)
+      reported sound (suc w) more = reported_begins file next (before.done ++ taken) rest _ _ (adds.going before.done before.written before.told (omega arith)) parts_read
 
-  pub failed_reports : {E : Type 0} (end : Result Source E) → s ≡ result_unwrap_or end Failed → IsErr end → (later : Option (List ℕ)) → Appends now later text
+      by : (source : Source) → s ≡ source → Begins file (before.written ++ text)
+      by Open is = reported (λ e. cc) after.wanted refl
+      by Ended is = reported (λ e. cc) after.wanted refl
+      by Failed is = reported_begins file next (before.done ++ taken) rest _ _ (adds.broken before.done before.written before.told is) parts_read
+
+  pub failed_reports : s ≡ Failed → (later : Option (List ℕ)) → Appends now later text
       → (done : List ℕ) × (part : List ℕ) × (counts : Counts) × (written : List ℕ) × Consumes file next (done ++ part) × (length part < 512)
       × Reported done counts written × Appends begun later written
-  failed_reports (Ok source) is failed later wrote = absurd (search rules)
-  failed_reports (Err e) is failed later wrote =
+  failed_reports is later wrote =
       let whole : bytes_taken s got ≡ got - got % 512 = ap (λ r. bytes_taken r got) is in
       let few : length rest < 512 = omega (arith, length-drop (bytes_taken s got) bytes, length_bytes) in (
         before.done ++ taken,
@@ -204,10 +200,8 @@ module _ {file left next begun now : Option (List ℕ)} {run after : Progress} {
           wrote = all_written;
         }
 
-    pub whole_written : {E : Type 0} (end : Result Source E) → s ≡ result_unwrap_or end Failed → IfOk end (λ source. source ≡ Failed → ⊥)
-        → IfOk end (λ source. source ≡ Ended → IsAtEnd next) → IsOk end → after.wanted ≡ 0 → IfSome file (λ all. Appends begun later (report_of all))
-    whole_written (Err e) is sound ended ok none = absurd (search rules)
-    whole_written (Ok source) is sound ended ok none = by file (ends_whole (λ e. sound (sym is ∙ e)) (λ e. ended (sym is ∙ e)) none)
+    pub whole_written : (s ≡ Failed → ⊥) → (s ≡ Ended → IsAtEnd next) → after.wanted ≡ 0 → IfSome file (λ all. Appends begun later (report_of all))
+    whole_written sound end none = by file (ends_whole sound end none)
       where
         by : (a : Option (List ℕ)) → IfSome a (λ all. before.written ++ text ≡ report_of all) → IfSome a (λ all. Appends begun later (report_of all))
         by None same = tt

@@ -22,7 +22,7 @@ fn asked_by(word: &[u8]) -> Request
     }
 }
 
-// An argument that does not fit the buffer is not known either.
+// A buffer and how much of it is filled, as `arg` has it, without memory of its own. An argument that does not fit is not known either.
 pub(crate) fn asked(rt: &impl Env) -> Request {
     let mut word = [0u8; 16];
     match rt.arg(2, &mut word) {

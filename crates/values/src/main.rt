@@ -17,9 +17,9 @@ mod output;
 
 use arguments::{Request, asked};
 use failure::Failure;
-use input::fill;
+use input::{Rest, fill, source_of};
 use output::{USAGE, write_version, write_whole};
-use runs::{Input, Output, Source};
+use runs::{INPUT_SIZE, Input, OUTPUT_SIZE, Output};
 use std::io;
 use std::io::{Read, Write};
 use std::process::ExitCode;
@@ -27,24 +27,21 @@ use std::process::ExitCode;
 // How often a call that a signal interrupted is made again. Every loop is proved to end, hence a limit; no run comes near it.
 const MOST_TRIES: u32 = u32::MAX;
 
-// What came of a read and of the write after it. A read fails before a whole block is there, and nothing is written then. Of four arms:
-// with fewer the compiler inlines less of what is called, and a block takes more instructions.
-fn outcome_of(end: io::Result<Source>, written: io::Result<()>) -> Result<(), Failure>
+// What came of a read and of the write after it. A read fails before a whole block is there, and nothing is written then.
+fn outcome_of(end: io::Result<Rest>, written: io::Result<()>) -> Result<(), Failure>
     ensures ok { OnOk result (IsOk end × IsOk written) }
     ensures input { (error : Error) → result ≡ Err (Failure.Input error) → IsErr end × IsOk written }
     ensures which { MatchResult written (λ _. MatchResult end (λ _. result ≡ Ok tt) (λ error. result ≡ Err (Failure.Input error))) (λ error. result ≡ Err (Failure.Output error)) }
 {
     match (end, written) {
-        (Ok(_), Ok(())) => Ok(()),
-        (Ok(_), Err(output)) => Err(Failure::Output(output)),
+        (_, Err(output)) => Err(Failure::Output(output)),
         (Err(input), Ok(())) => Err(Failure::Input(input)),
-        (Err(_), Err(output)) => Err(Failure::Output(output)),
+        (Ok(_), Ok(())) => Ok(()),
     }
 }
 
-// Reads the whole file and writes its report, and nothing else. Whatever fails, what was written is the start of that report. After a
-// read that failed, the lines of the whole blocks that came before it are still written. Inlined into `main` it takes longer.
-#[inline(never)]
+// Reads the whole file and writes its report, and nothing else. Whatever fails, what was written is the start of that report; before a
+// read that failed, the lines of all the whole blocks were written.
 fn value_file<R: Read, W: Write>(reader: &mut R, writer: &mut W) -> Result<(), Failure>
     ensures whole { OnOk result (IfSome (R.remaining reader.old) (λ file.
         Appends (W.contents writer.old) (W.contents writer.new) (report_of file))) }
@@ -57,21 +54,20 @@ fn value_file<R: Read, W: Write>(reader: &mut R, writer: &mut W) -> Result<(), F
         × (length part < 512) × Reported done counts written
         × Appends (W.contents writer.old) (W.contents writer.new) written }
 {
-    let mut input: Input = [0; 65536];
-    let mut out: Output = [0; 33024];
+    let mut input: Input = [0; INPUT_SIZE];
+    let mut out: Output = [0; OUTPUT_SIZE];
     let mut run = runs::start(&mut out);
     let mut outcome = write_whole(writer, &out[..run.length]).map_err(Failure::Output);
     // One way out of the loop, and no `?` in it: with it a block takes 18 in 100 more instructions, as less is inlined.
-    while outcome.is_ok() & (0 < run.wanted) {
+    while outcome.is_ok() && 0 < run.wanted {
         let (got, end) = fill(reader, &mut input[..run.wanted], run.held);
-        let source = *end.as_ref().unwrap_or(&Source::Failed);
-        run = runs::step(run.counts, &mut input[..got], source, &mut out);
+        run = runs::step(run.counts, &mut input[..got], source_of(&end), &mut out);
         outcome = outcome_of(end, write_whole(writer, &out[..run.length]));
     }
     outcome
 }
 
-// One match over what may be asked: there is no step to hand over.
+// One match over what may be asked; each arm writes to another place, so that no function is handed on.
 fn main(rt: HostRuntime) -> ExitCode {
     let outcome = match asked(&rt) {
         Request::Report => value_file(&mut rt.stdin(), &mut rt.stdout()),

@@ -1,9 +1,8 @@
 -- What the code carries from line to line, one line further; and the totals over all lines.
 -- Assumes nothing.
-use Rattle.std.proofs.Common.{ℕ, ◌+◌, ◌<◌, false, ◌≡◌, arith, get_or, take}
+use Rattle.std.proofs.Common.{ℕ, ◌+◌, ◌<◌, ◌≡◌, arith, get_or, take}
 use Rattle.std.proofs.lemmas.List.{get_or-take}
-use borrow.Author.Tests.{lt-leb}
-use Rattle.numbers.specs.Below.{sum_below, any_below}
+use Rattle.std.proofs.lemmas.Bool.{lt-leb}
 use Rattle.numbers.proofs.Below.{sum_more, any_more}
 use Rattle.cases.specs.Entries.{line, line_by, age_of}
 use Rattle.cases.specs.Kinds.{rules_of}
@@ -29,21 +28,6 @@ pub valued_more :
     (c : Case) (i : ℕ) (amount : ℕ → Line → Benefit → ℕ) (b : Benefit) →
     valued_below (i + 1) c amount b ≡ valued_below i c amount b + valued_at (factors_of c i) (amount c.revaluation (line c i)) b
 valued_more c i amount b = sum_more i _
-
--- before the first line all is zero
-pub totals_none : (c : Case) (t : Totals) → (t.pension ≡ 0) × ((t.lump ≡ 0) × ((t.survivor ≡ 0) × ((t.deduction ≡ 0) × ((t.debit ≡ 0) × ((t.absent ≡ false) × (t.excess ≡ false)))))) → TotalsBelow c 0 t
-unfolding sum_below any_below
-totals_none c t z =
-    record {
-      pension = z.0;
-      lump = z.1.0;
-      survivor = z.1.1.0;
-      deduction = z.1.1.1.0;
-      debit = z.1.1.1.1.0;
-      missing = z.1.1.1.1.1.0;
-      excess = z.1.1.1.1.1.1;
-      bounded = omega arith;
-    }
 
 pub totals_more : (c : Case) (i : ℕ) (s t : Totals) → TotalsBelow c i s → TotalsBy (row_of c i) c.revaluation (line c i) t → TotalsBelow c (i + 1) (plus_totals s t)
 unfolding factors_of

@@ -1,7 +1,6 @@
 -- What refusal 5 leaves: amounts, revaluation and so the items are in their ranges.
 -- Assumes nothing.
-use Rattle.std.proofs.Common.{ℕ, ◌+◌, ◌*◌, ◌≤◌, ◌<◌, Bool, true, false, cond, not, ◌&&◌, [], ◌∷◌, ◌≡◌, mul-le-mul, arith, lit<, eqb, ltb, ltb-false}
-use Rattle.numbers.proofs.Rounding.{nearest_half}
+use Rattle.std.proofs.Common.{ℕ, ◌<◌, false, not, ◌&&◌, [], ◌∷◌, ◌≡◌, eqb, ltb, ltb-false}
 use Rattle.numbers.proofs.Tests.{or_false, none_holds}
 use Rattle.numbers.proofs.Below.{any_false}
 use Rattle.numbers.proofs.Lists.{each_not}
@@ -10,11 +9,8 @@ use Rattle.cases.specs.Entries.{line, any_line, amount_in}
 use Rattle.refusals.specs.declared.Refusal.TheVariants.{Range}
 use Rattle.refusals.proofs.Order.{none_given}
 use Rattle.cases.specs.Form.{WellFormed, form_tests, too_large, line_range_fault, head_range_fault, range_fault, status_listed, receiver_listed, sex_listed, dates_range_fault}
-use Rattle.cases.specs.Flags.{transfer_flag}
 use Rattle.cases.specs.Kinds.{rules_of}
 use Rattle.cases.specs.declared.Case.{Case}
-use Rattle.sums.specs.Sum.{revalued}
-use Rattle.sums.specs.Payment.{underpin}
 use Rattle.valuing.specs.Totals.{HeadInRange, LineInRange}
 
 pub in_range : (c : Case) → WellFormed c → range_fault c ≡ false
@@ -45,14 +41,5 @@ module _ (c : Case) (sound : range_fault c ≡ false) where
       each_not (λ a. too_large (amount_in a (line c i))) amounts (λ a. ltb-false 1000000000 (amount_in a (line c i)))
       (or_false _ _ (any_false 4 (λ j. line_range_fault (rules_of c.kind) c.count j (line c j)) both.1 i h)).0
 
--- an amount in range, revalued
-pub revalued_small : (v x : ℕ) → v ≤ 100000 → x ≤ 2000000000 → revalued v x ≤ 20000000000
-revalued_small v x p q = omega (arith, nearest_half 10000 (x * v) (lit< tt), mul-le-mul q p)
-
-pub underpin_small : (c : Case) → range_fault c ≡ false → underpin c ≤ 2000000000
-unfolding underpin
-underpin_small c sound = go (transfer_flag c.flags) (head_in_range c sound)
-  where
-    go : (t : Bool) → HeadInRange c → cond t (c.transfer + c.contributions) 0 ≤ 2000000000
-    go true r = omega arith
-    go false r = omega arith
+pub formed_in_range : (c : Case) → WellFormed c → HeadInRange c
+formed_in_range c w = head_in_range c (in_range c w)

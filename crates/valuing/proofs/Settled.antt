@@ -75,8 +75,3 @@ module _ (c : Case) (t : Totals) (carried : TotalsBelow c 4 t) where
         underpin = underpin c;
         avc = c.avc;
       }
-
-  -- with the payment of the gross value
-  pub items_of_gross : items_left (gross_of c) ≡ items_of c
-  unfolding gross_of gross_by
-  items_of_gross = rw (← debit_is) (items_are (first_value (factors_of c) c) refl)

@@ -35,15 +35,16 @@ module _ (a b : ℕ) (ha : a < 2 ^ 62) (hb : b < 2 ^ 62) where
       go true = omega arith
       go false = omega arith
 
-  pub sub_fits : SFits w64 bits
+  sub_fits : SFits w64 bits
   sub_fits = record { sfits = rw is_sub mag_sub }
 
-  pub sub_read : to_z w64 (of_z w64 bits) ≡ sub_ℕ a b
+  sub_read : to_z w64 (of_z w64 bits) ≡ sub_ℕ a b
   sub_read = to_z-of_z sub_fits ∙ is_sub
 
   -- the test `total < 0` is the unsigned test, and what is not below zero is the unsigned difference
-  pub sub_test : lt_z (to_z w64 (of_z w64 bits)) (pos 0) ≡ ltb a b
+  sub_test : lt_z (to_z w64 (of_z w64 bits)) (pos 0) ≡ ltb a b
   sub_test = ap (λ (z : ℤ). lt_z z (pos 0)) sub_read ∙ sub_below a b
 
+  -- no proof cites it, docs/PORT.md names it
   pub sub_pos : lt_z (to_z w64 (of_z w64 bits)) (pos 0) ≡ false → to_z w64 (of_z w64 bits) ≡ pos (a - b)
   sub_pos t = sub_read ∙ sub_left a b (sym sub_test ∙ t)

@@ -2,7 +2,7 @@
 -- Assumes nothing.
 use Rattle.std.specs.Prelude.{ℕ, ◌+◌, ◌-◌, ◌*◌, ◌≤◌, Bool, ◌||◌, Option, ◌≡◌, Result, Ok, Err, cond, ltb}
 use Rattle.refusals.specs.declared.Refusal.{Refusal}
-use Rattle.refusals.specs.declared.Refusal.TheVariants.{Negative}
+use Rattle.refusals.specs.declared.Refusal.TheVariants.{Negative, Award}
 use Rattle.numbers.specs.Below.{sum_below, any_below}
 use Rattle.numbers.specs.Lists.{Each}
 use Rattle.cases.specs.Layout.{amounts}
@@ -12,7 +12,7 @@ use Rattle.cases.specs.declared.Case.{Case}
 use Rattle.factors.specs.Rows.{absent, found}
 use Rattle.factors.specs.declared.Factors.{Factors}
 use Rattle.sums.specs.Rows.{row_of, factors_of}
-use Rattle.sums.specs.Sum.{Benefit, member_pension, lump_sum, survivor_pension, reduced, revalued_debit, valued_at, deduction_at, over_benefits, scheme_pays_exceeds}
+use Rattle.sums.specs.Sum.{Benefit, member_pension, lump_sum, survivor_pension, reduced, revalued_debit, valued_at, deduction_at, over_benefits, scheme_pays_exceeds, negative_fault, award_fault}
 use Rattle.valuing.specs.declared.sum.Totals.{Totals}
 
 -- the amounts of a line are in their range
@@ -79,6 +79,13 @@ pub record TotalsBelow (c : Case) (n : ℕ) (t : Totals) : Type 0 where
   pub missing : t.absent ≡ any_below n (λ i. absent (row_of c i))
   pub excess : t.excess ≡ any_below n (λ i. scheme_pays_exceeds c.revaluation (line c i))
   pub bounded : Bounded (n * 200000000000000) t
+
+-- r, unless refusal 14 or 16 applies
+abbrev pub unless_negative : {A : Type 0} → Case → Result A Refusal → Result A Refusal
+unless_negative c r = cond (negative_fault (factors_of c) c) (Err Negative) r
+
+abbrev pub unless_award : {A : Type 0} → Case → Result A Refusal → Result A Refusal
+unless_award c r = cond (award_fault (factors_of c) c) (Err Award) r
 
 -- the signed difference, or that it is below zero
 abbrev pub rest_of : ℕ → ℕ → Result ℕ Refusal

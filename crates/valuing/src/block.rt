@@ -11,6 +11,7 @@ use blocks::read_block;
 
 /// The answer to a block of any length: reading's refusal, or what valuing answers to the case that it holds. Reading has already
 /// asked refusals 3, 4 and 5 of that case.
+#[tactic(auto, using(answers::proofs::Comparison::demand3, answers::proofs::Exact::answer_near_exact), unfolding(crate::specs::Block::block_answer))]
 pub fn value_block(block: &[u8]) -> Answer
     ensures answer { result ≡ block_answer block.now }
     ensures numbers { answer_numbers result ≡ answer_numbers (block_answer block.now) }
@@ -20,7 +21,7 @@ pub fn value_block(block: &[u8]) -> Answer
     match read_block(block) {
         Ok(case) => Answer {
             number: case.number,
-            outcome: Outcome::from(value_formed(&FormedCase { case: &case })),
+            outcome: Outcome::from(value_formed(FormedCase { case: &case })),
         },
         Err(refusal) => Answer {
             number: 0,

@@ -2,7 +2,7 @@
 // then each line's date and its amounts, then each line's divorce debit. A date is year + 65536 × month + 16777216 × day. Each
 // number is cut to the width of its field, and the case is valued as it stands, without reading a block. Prints a line for each:
 // its place from 1, the case number, and the payment with its items as whole numbers (payment, underpin and AVC in pence, the
-// others in hundredths of a penny) or the refusal.
+// others in hundredths of a penny) or the refusal. The fields are listed here once more, since no block is read.
 #![tactic(auto)]
 
 ghost use Rattle.std.specs.Prelude.{◌≤◌};
@@ -25,12 +25,7 @@ fn read_field<const N: usize, R: Read>(input: &mut R) -> io::Result<[u8; N]>
 }
 
 fn read_date<R: Read>(input: &mut R) -> io::Result<Date> {
-    let [low, high, month, day]: [u8; 4] = read_field(input)?;
-    Ok(Date {
-        year: u16::from_le_bytes([low, high]),
-        month,
-        day,
-    })
+    Ok(Date::from(read_field(input)?))
 }
 
 fn read_amount<R: Read>(input: &mut R) -> io::Result<u64> {
@@ -73,13 +68,11 @@ fn read_case<R: Read>(input: &mut R) -> io::Result<Case> {
         avc: read_amount(input)?,
         transfer: read_amount(input)?,
         contributions: read_amount(input)?,
-        lines: [
-            read_line(input)?,
-            read_line(input)?,
-            read_line(input)?,
-            read_line(input)?,
-        ],
+        lines: [Line::default(); 4],
     };
+    for line in &mut case.lines {
+        *line = read_line(input)?;
+    }
     for line in &mut case.lines {
         line.debit_pension = read_amount(input)?;
         line.debit_survivor = read_amount(input)?;
@@ -109,6 +102,7 @@ fn print_case(rt: &impl Print, place: u64, case: &Case) -> io::Result<()> {
     }
 }
 
+// A loop of its own, as in calendar_check.
 fn print_cases<R: Read>(rt: &impl Print, input: &mut R) -> io::Result<()> {
     // Every loop is proved to end, hence a limit.
     for place in 1..1_000_000 {

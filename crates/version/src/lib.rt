@@ -12,7 +12,7 @@ const VERSION: u32 = 10000;
 /// What the version line is formed in.
 pub type Line = [u8; 32];
 
-/// The version as a number.
+/// The version as a number: the first of its three numbers times 10,000, the second times 100, and the third, summed.
 pub fn version_number() -> u32
     ensures { result ≡ version_number }
 {

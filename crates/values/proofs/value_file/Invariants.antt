@@ -11,8 +11,8 @@ use Rattle.values.specs.declared.failure.Failure.TheVariants.{Input}
 use Rattle.values.proofs.Report.{Going}
 use Rattle.values.proofs.value_file.Given as goal
 
-abbrev pub invariant-loop-run : goal.invariant-loop-run
-invariant-loop-run g l = record {
+abbrev pub invariant-loop-outcome : goal.invariant-loop-outcome
+invariant-loop-outcome g l = record {
   wanted : (l.run.wanted ≤ 65536) × (l.run.wanted % 512 ≡ 0);
   held : l.run.held < 512;
   going : IsOk l.outcome → 0 < l.run.wanted → Going (g.R.Read.remaining l.fn.reader) (g.R.Read.remaining l.reader) (g.W.Write.contents l.fn.writer) (g.W.Write.contents l.writer) l.run l.input;
@@ -23,5 +23,5 @@ invariant-loop-run g l = record {
       × (length part < 512) × Reported done counts written × Appends (g.W.Write.contents l.fn.writer) (g.W.Write.contents l.writer) written;
 }
 
-abbrev pub decreases-loop-run : goal.decreases-loop-run
-decreases-loop-run g l = left l.run.counts + min 1 l.run.wanted
+abbrev pub decreases-loop-outcome : goal.decreases-loop-outcome
+decreases-loop-outcome g l = left l.run.counts + min 1 l.run.wanted

@@ -5,12 +5,12 @@ use Rattle.blocks.proofs.gaps.line_nonzero.Goals as goal
 pub returns : goal.returns
 returns c =
     let s = c.args.block.now in
-    let starts = c.starts_of-line.ensures in
-    let line = c.starts_of-line.result.0 in
-    let debit = c.starts_of-line.result.1 in
+    let line = c.line-line.result in
+    let debit = c.debit-debit.result in
+    let few = c.args.place.of_four in
     rw (
-      c.nonzero.ensures ∙ nonzero_between s line (line + 72) 72 refl (omega (arith, starts.0)),
-      c.nonzero-2.ensures ∙ nonzero_between s debit (debit + 24) 24 refl (omega (arith, starts.1)),
-      starts.0,
-      starts.1,
+      c.nonzero.ensures ∙ nonzero_between s line (line + 72) 72 refl (omega (arith, c.line-line.ensures, few)),
+      c.nonzero-2.ensures ∙ nonzero_between s debit (debit + 24) 24 refl (omega (arith, c.debit-debit.ensures, few)),
+      c.line-line.ensures,
+      c.debit-debit.ensures,
     )

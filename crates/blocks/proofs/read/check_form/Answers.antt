@@ -7,5 +7,5 @@ use Rattle.blocks.proofs.read.check_form.Goals as goal
 pub returns : goal.returns
 returns c =
     let s = c.args.block.now in
-    rw (c.check_form_by.ensures.verdict, c.unnamed_fault.ensures, c.faults_of_lines.ensures.reserved, c.faults_of_lines.ensures.range, c.new-ruled.ensures, c.requires)
+    rw (c.check_form_by.ensures.verdict, c.unnamed_fault.ensures, c.faults_of_lines.ensures, c.new-ruled.ensures, c.requires)
     (ap first (by_head s (unnamed_fault s)))

@@ -1,3 +1,4 @@
+-- The check alone does not find that a line of zeros breaks nothing.
 use Rattle.std.proofs.Common.{sym, ◌∙◌, arith}
 use Rattle.cases.proofs.PastCount.{zero_faults}
 use Rattle.cases.proofs.Rules.faults_of_line.Goals as goal
@@ -7,4 +8,4 @@ returns-else-filled c =
     let args = c.args in
     let zero = c.if-filled.false in
     let none = zero_faults args.self.now args.count args.place args.line.now args.flags (omega arith) (sym c.is_filled-filled.ensures ∙ zero) in
-    record { reserved = zero ∙ sym none.0; range = zero ∙ sym none.1 }
+    rw (zero, none.0, none.1)

@@ -1,7 +1,6 @@
--- `form_end` meets its contract.
 use Rattle.std.proofs.Common.{◌∙◌, arith, rules}
-use Rattle.buffers.specs.Text.{WrittenIfRoom}
-use Rattle.buffers.proofs.Writing.{if_room, ◌then◌}
+use Rattle.buffers.specs.Text.{PutsIfRoom}
+use Rattle.buffers.proofs.Writing.{puts_if_room, ◌then◌}
 use Rattle.report.specs.Lines.{end_line}
 use Rattle.report.proofs.Forming.{formed_if_room}
 use Rattle.report.proofs.Lines.{end_short}
@@ -11,12 +10,10 @@ pub returns : goal.returns
 unfolding end_line
 returns c =
     let short = end_short c.args.blocks c.args.paid (search rules) (search rules) in
-    let written : WrittenIfRoom _ _ (end_line c.args.blocks c.args.paid) _ _ =
+    let line : PutsIfRoom _ (end_line c.args.blocks c.args.paid) _ =
     rw (c.from.ensures, c.from-2.ensures) at
-    (if_room c.put.ensures.bytes c.put.ensures.stop then
-    if_room c.put_decimal.ensures.bytes c.put_decimal.ensures.stop then
-    if_room c.put-2.ensures.bytes c.put-2.ensures.stop then
-    if_room c.put_decimal-2.ensures.bytes c.put_decimal-2.ensures.stop then
-    if_room c.put-3.ensures.bytes c.put-3.ensures.stop) in
-    let all = formed_if_room (search rules) c.new-line.ensures.bytes c.new-line.ensures.length (omega arith) written c.length.ensures in
+    (puts_if_room c.put.ensures then c.put_decimal.ensures then c.put-2.ensures then
+    c.put_decimal-2.ensures then c.put-3.ensures) in
+    let all =
+    formed_if_room (search rules) c.new-line.ensures.bytes c.new-line.ensures.length (omega arith) line.written c.length.ensures in
     record { answer = all.0; numbers = all.1.0; bytes = search rules ∙ all.1.1 }

@@ -1,4 +1,3 @@
--- `step` meets its contract.
 use Rattle.std.proofs.Common.{◌≤◌, min, ◌≡◌, ◌++◌, ap, ◌∙◌, arith, length, length-take, take, drop, rules}
 use Rattle.buffers.proofs.Writing.{from_start}
 use Rattle.runs.specs.Run.{wanted_after}

@@ -1,4 +1,3 @@
--- `sum_bytes` meets its contract.
 use Rattle.std.proofs.Common.{arith, ◌≡◌}
 use Rattle.numbers.proofs.Below.{sum_none, sum_more}
 use Rattle.blocks.specs.Block.{checksum}

@@ -1,11 +1,8 @@
-use Rattle.std.proofs.Common.{rules, arith, refl, sym, ap, subst, ◌∙◌, ◌≡◌, ◌≤◌, ◌+◌, length, take, drop, take-add, drop-drop, length-drop, take_all, ◌++◌}
+use Rattle.std.proofs.Common.{ap, sym, arith, subst, ◌∙◌, ◌≡◌, ◌≤◌, ◌+◌, length, take, drop, take-add, drop-drop, length-drop, ◌++◌}
 use Rattle.std.proofs.lemmas.List.{take_rest}
 use Rattle.std.specs.Io.KnownBytes.{Appends}
-use Rattle.std.proofs.KnownBytes.{Appends-nil, Appends-trans}
+use Rattle.std.proofs.KnownBytes.{Appends-trans}
 use Rattle.values.proofs.output.write_whole.Goals as goal
-
-pub loop-rest-init : goal.loop-rest-init
-loop-rest-init g c = (0, omega arith, refl, Appends-nil _)
 
 pub loop-rest-preserved : goal.loop-rest-preserved
 loop-rest-preserved g c =
@@ -16,9 +13,3 @@ loop-rest-preserved g c =
     let room : n + more ≤ length bytes = omega (arith, few, c.in_ok-n.ensures.bound, ap length is, length-drop n bytes) in
     let joined : take n bytes ++ take more rest ≡ take (n + more) bytes = ap (λ l. take n bytes ++ take more l) is ∙ sym (take-add n more bytes) in
     (n + more, room, take_rest rest more ∙ ap (drop more) is ∙ drop-drop more n bytes, subst (Appends _ _) joined (Appends-trans _ _ _ _ _ wrote c.in_ok-n.ensures.bytes))
-
-pub returns-clause-whole : goal.returns-clause-whole
-returns-clause-whole g c =
-    let (n, few, is, wrote) = c.loop-rest.invariant in
-    let none : length c.loop-rest.rest.now ≡ 0 = search rules in
-    subst (Appends _ _) (take_all n c.args.bytes.now (omega (arith, few, ap length is, length-drop n c.args.bytes.now))) wrote

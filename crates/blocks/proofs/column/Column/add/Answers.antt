@@ -1,4 +1,3 @@
--- `Column::add` meets its contract.
 use Rattle.std.proofs.Common.{◌≡◌, ◌+◌, ◌-◌, ◌*◌, ap, ◌∙◌, arith}
 use Rattle.blocks.specs.Words.{odd_bytes, word_at, odd_at}
 use Rattle.blocks.proofs.Sums.{sums_none, sums_back, sums_all}

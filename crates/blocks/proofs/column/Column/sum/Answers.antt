@@ -1,4 +1,3 @@
--- `Column::sum` meets its contract.
 use Rattle.std.proofs.Common.{arith}
 use Rattle.blocks.proofs.Words.{words_sum}
 use Rattle.blocks.proofs.column.Column.sum.Goals as goal

@@ -1,3 +1,4 @@
+-- The check alone does not find these.
 use Rattle.std.proofs.Common.{◌∙◌}
 use Rattle.numbers.proofs.Below.{any_none, any_more}
 use Rattle.cases.specs.Entries.{line_by}
@@ -12,6 +13,8 @@ pub loop-place-preserved : goal.loop-place-preserved
 unfolding line_by
 loop-place-preserved c =
     let before = c.loop-place.invariant in
-    let faults = c.faults_of_line-of_line.ensures in
     let rules = c.args.self.now.ruled in
-    record { reserved = rw (any_more, before.reserved, faults.reserved, rules); range = rw (any_more, before.range, faults.range, rules) }
+    record {
+      reserved = rw (c.bitor-faults.ensures, any_more, before.reserved, c.faults_of_line.ensures, rules);
+      range = rw (c.bitor-faults.ensures, any_more, before.range, c.faults_of_line.ensures, rules);
+    }

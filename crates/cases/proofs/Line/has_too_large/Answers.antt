@@ -1,4 +1,0 @@
-use Rattle.cases.proofs.Line.has_too_large.Goals as goal
-
-pub returns : goal.returns
-returns c = rw (c.any_too_large.ensures, c.amounts.ensures)
