@@ -6,8 +6,8 @@ use Rattle.refusals.specs.declared.Refusal.TheVariants.{Debit, Negative, Award}
 use Rattle.cases.specs.Entries.{line}
 use Rattle.cases.specs.declared.Case.{Case}
 use Rattle.sums.specs.Rows.{factors_of}
-use Rattle.sums.specs.Sum.{Benefit, debited}
-use Rattle.sums.specs.Exact.{WithinOfExact, factor_sum}
+use Rattle.sums.specs.Sum.{Benefit, entered, debited}
+use Rattle.sums.specs.Exact.{WithinOfExact, factors_on}
 use Rattle.sums.proofs.Exact.{gross_near_exact, near_exact_without_divorce}
 use Rattle.answers.specs.Answer.{Accepted, tests, gross_of, answer_of}
 use Rattle.answers.specs.Exact.{GrossNearExact}
@@ -20,10 +20,10 @@ answer_near_exact c n = (
   gross_near_exact (factors_of c) c (none_given Debit (tests c) n) (none_given Negative (tests c) n) (none_given Award (tests c) n),
 )
 
--- without a divorce debit, within half of the bound
+-- without a divorce debit, within half a penny less
 pub accepted_near_without_divorce :
     (c : Case) → Accepted c → ((b : Benefit) (j : ℕ) → debited b (line c j) ≡ 0) →
-    WithinOfExact (factors_of c) c (factor_sum (factors_of c) * 5000 + 500000) (gross_of c)
+    WithinOfExact (factors_of c) c (factors_on (factors_of c) (λ i b. entered b (line c i)) * 5000 + 500000) (gross_of c)
 unfolding gross_of tests
 accepted_near_without_divorce c n =
     near_exact_without_divorce (factors_of c) c (none_given Debit (tests c) n) (none_given Negative (tests c) n)

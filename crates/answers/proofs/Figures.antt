@@ -1,6 +1,6 @@
 -- The figures at the edges and those of the exact value: every row, by computing the definitions.
 -- Assumes nothing.
-use Rattle.std.proofs.Common.{map, ◌≡◌, refl}
+use Rattle.std.proofs.Common.{map, [], ◌∷◌, ◌≡◌, refl}
 use Rattle.numbers.specs.Rounding.{nearest}
 use Rattle.numbers.specs.Below.{sum_below, any_below, how_many, fewest}
 use Rattle.calendar.specs.Dates.{days_in, is_real}
@@ -11,15 +11,17 @@ use Rattle.cases.specs.Form.{kind_fault, line_filled, reserved_filled, line_rese
 use Rattle.factors.specs.Tables.{section1995_table, scheme2015_table, row_at, row_in}
 use Rattle.sums.specs.Rows.{row_of, factors_of}
 use Rattle.sums.specs.Sum.{valued_on, deduction, credit, negative_fault, first_value, debit_value, award_fault, gross_by, scheme_pays_fault}
-use Rattle.sums.specs.Exact.{exact_added, exact_scheme_pays, exact_debit, factor_sum}
+use Rattle.sums.specs.Exact.{exact_added, exact_scheme_pays, exact_debit, factors_on}
 use Rattle.sums.specs.Payment.{underpin, payment}
-use Rattle.answers.specs.Answer.{factor_fault, tests, gross_of, items_of, answer_of}
+use Rattle.refusals.specs.declared.Refusal.TheVariants.{Award}
+use Rattle.answers.specs.declared.Outcome.TheVariants.{Paid, Refused}
+use Rattle.answers.specs.Answer.{factor_fault, tests, gross_of, items_of, answer_of, outcome_numbers}
 use Rattle.answers.specs.Figures.{figures}
 use Rattle.answers.specs.ExactFigures.{exact_figures}
 
 both_hold :
     (map (λ r. r.worked) figures ≡ map (λ r. r.stated) figures) × (map (λ r. r.worked) exact_figures ≡ map (λ r. r.stated) exact_figures)
-unfolding nearest sum_below any_below how_many fewest days_in is_real in_year age years_ahead line_by rules_of kind_fault line_filled reserved_filled line_reserved_fault head_reserved_fault reserved_fault line_range_fault dates_range_fault head_range_fault range_fault section1995_table scheme2015_table row_at row_in row_of factors_of valued_on deduction credit negative_fault first_value debit_value award_fault gross_by scheme_pays_fault exact_added exact_scheme_pays exact_debit factor_sum underpin payment factor_fault tests gross_of items_of answer_of
+unfolding nearest sum_below any_below how_many fewest days_in is_real in_year age years_ahead line_by rules_of kind_fault line_filled reserved_filled line_reserved_fault head_reserved_fault reserved_fault line_range_fault dates_range_fault head_range_fault range_fault section1995_table scheme2015_table row_at row_in row_of factors_of valued_on deduction credit negative_fault first_value debit_value award_fault gross_by scheme_pays_fault exact_added exact_scheme_pays exact_debit factors_on underpin payment factor_fault tests gross_of items_of answer_of
 both_hold = (refl, refl)
 
 pub figures_hold : map (λ r. r.worked) figures ≡ map (λ r. r.stated) figures
@@ -27,3 +29,10 @@ figures_hold = both_hold.0
 
 pub exact_figures_hold : map (λ r. r.worked) exact_figures ≡ map (λ r. r.stated) exact_figures
 exact_figures_hold = both_hold.1
+
+-- the numbers of an answer: 0 and the amounts of a payment in the line's order, or the refusal's number
+pub numbers_shown :
+    (outcome_numbers (Paid (record { payment = 1; pension = 2; lump = 3; survivor = 4; deduction = 5; underpin = 6; avc = 7 })) ≡
+    0 ∷ 1 ∷ 2 ∷ 3 ∷ 4 ∷ 5 ∷ 6 ∷ 7 ∷ []) ×
+    (outcome_numbers (Refused Award) ≡ 16 ∷ [])
+numbers_shown = (refl, refl)

@@ -10,7 +10,7 @@ use Rattle.answers.specs.Figures.{Shown, number, paid, answered, ◌of◌, aged5
 -- of a case, in millionths of a penny, what is added to its exact value, what is taken off, and the bound; then valuing's answer
 abbrev pub exact_shown : Case → List Shown
 exact_shown c =
-    number (exact_added (factors_of c) c) ∷ number (exact_taken (factors_of c) c) ∷ number (exact_bound (factors_of c)) ∷ answered c ∷ []
+    number (exact_added (factors_of c) c) ∷ number (exact_taken (factors_of c) c) ∷ number (exact_bound (factors_of c) c) ∷ answered c ∷ []
 
 -- 1.5p of pension is rounded up to 2p, and Scheme Pays takes all of it off: the gross value is 0 and the exact value is below zero
 abbrev pub below_zero : Case
@@ -25,7 +25,7 @@ near_the_bound =
 
 abbrev pub exact_figures : List Figure
 exact_figures =
-    (exact_shown example_a is number 13710352500000 ∷ number 23460000000 ∷ number 20550000 ∷ paid 13686893 13686893 ∷ []) ∷
-    (exact_shown example_c is number 6314918400000 ∷ number 0 ∷ number 19250000 ∷ paid 6314918 6314918 ∷ []) ∷
-    (exact_shown below_zero is number 27075000 ∷ number 36100000 ∷ number 21430000 ∷ paid 0 0 ∷ []) ∷
+    (exact_shown example_a is number 13710352500000 ∷ number 23460000000 ∷ number 10775000 ∷ paid 13686893 13686893 ∷ []) ∷
+    (exact_shown example_c is number 6314918400000 ∷ number 0 ∷ number 10125000 ∷ paid 6314918 6314918 ∷ []) ∷
+    (exact_shown below_zero is number 27075000 ∷ number 36100000 ∷ number 10025000 ∷ paid 0 0 ∷ []) ∷
     (exact_shown near_the_bound is number 464956285000 ∷ number 13146702957 ∷ number 21430000 ∷ paid 451831 451831 ∷ []) ∷ []

@@ -2,12 +2,12 @@
 -- factors f; and the bound on a gross value's distance from it. Values are in millionths of a penny, which makes the exact value a
 -- whole number: the revaluation factor is in ten-thousandths, the other factors are in hundredths.
 -- Assumes nothing.
-use Rattle.std.specs.Prelude.{ℕ, ◌+◌, ◌*◌}
+use Rattle.std.specs.Prelude.{ℕ, ◌+◌, ◌*◌, cond, eqb}
 use Rattle.numbers.specs.Rounding.{Within}
 use Rattle.cases.specs.Entries.{line}
 use Rattle.cases.specs.declared.Case.{Case}
 use Rattle.factors.specs.declared.Factors.{Factors}
-use Rattle.sums.specs.Sum.{entered, scheme_pays_on, debited, factor, over_lines, over_benefits, valued_on, deduction}
+use Rattle.sums.specs.Sum.{Benefit, entered, scheme_pays_on, debited, factor, over_lines, over_benefits, valued_on, deduction}
 
 -- The exact value is what is added less what is taken off. The two are kept apart, since it may lie below zero where the total of
 -- rounded amounts does not
@@ -35,14 +35,14 @@ module _ (f : ℕ → Factors) (c : Case) where
   abbrev pub WithinOfExact : ℕ → ℕ → Type 0
   WithinOfExact n g = Within n (g * 1000000 + exact_taken) exact_added
 
-module _ (f : ℕ → Factors) where
-  -- the factors for pension, lump sum and survivor's pension over all lines, in hundredths; those of a line past the count are zero
-  unfoldable pub factor_sum : ℕ
-  factor_sum = over_benefits (λ b. over_lines (λ i. factor b (f i)))
+-- the factors used on some amounts, over all benefits and lines, in hundredths: an amount of zero is not rounded, so none is used on it
+unfoldable pub factors_on : (ℕ → Factors) → (ℕ → Benefit → ℕ) → ℕ
+factors_on f amount = over_benefits (λ b. over_lines (λ i. cond (eqb (amount i b) 0) 0 (factor b (f i))))
 
-  -- the sum of the factors used on revalued amounts: once on the benefits, once on the divorce debits
+module _ (f : ℕ → Factors) (c : Case) where
+  -- the sum of the factors used on revalued amounts: on what is entered of the benefits, and on the divorce debits
   abbrev pub factors_used : ℕ
-  factors_used = factor_sum + factor_sum
+  factors_used = factors_on f (λ i b. entered b (line c i)) + factors_on f (λ i b. debited b (line c i))
 
   -- half of that sum, in pence, and one penny; half a hundredth of a penny is 5,000 millionths
   abbrev pub exact_bound : ℕ
@@ -50,4 +50,4 @@ module _ (f : ℕ → Factors) where
 
 -- g pence lie within the bound
 abbrev pub NearExact : (ℕ → Factors) → Case → ℕ → Type 0
-NearExact f c g = WithinOfExact f c (exact_bound f) g
+NearExact f c g = WithinOfExact f c (exact_bound f c) g

@@ -46,7 +46,7 @@ fn scheme_pays_revaluation(case: &Case, line: &Line, factors: &Factors) -> i128 
 struct Position {
     exact: i128,
     above_exact: i128,
-    /// Half of what the factors on revalued amounts add up to, each once for a benefit and once for its divorce debit.
+    /// Half of what the factors used on revalued amounts add up to: each where its amount is not zero.
     half_factors: i128,
     scheme_pays_revaluation: i128,
     divorced: bool,
@@ -58,8 +58,17 @@ impl Position {
         for line in case.used() {
             let factors = model.factors(case, line).unwrap();
             position.exact += exact_of_line(case, line, &factors);
-            // Each counts twice, and half of that is taken. A factor is in hundredths.
-            position.half_factors += (factors.pension + factors.lump + factors.survivor) * PENNY / 100;
+            // A factor is in hundredths, and half of it is taken.
+            for (amount, factor) in [
+                (line.pension + line.additional, factors.pension),
+                (line.lump, factors.lump),
+                (line.survivor + line.dependant, factors.survivor),
+                (line.debit_pension, factors.pension),
+                (line.debit_lump, factors.lump),
+                (line.debit_survivor, factors.survivor),
+            ] {
+                position.half_factors += (amount != 0) as i128 * factor * PENNY / 200;
+            }
             position.scheme_pays_revaluation += scheme_pays_revaluation(case, line, &factors);
             position.divorced |= line.has_divorce_debit();
         }
@@ -75,9 +84,9 @@ impl Position {
         self.half_factors + PENNY
     }
 
-    /// Within the bound, and within half of it where there is no divorce debit.
+    /// Within the bound, and within half a penny less where there is no divorce debit.
     fn near(&self) -> bool {
-        self.distance() <= self.bound() && (self.divorced || 2 * self.distance() <= self.bound())
+        self.distance() <= self.bound() && (self.divorced || self.distance() <= self.bound() - PENNY / 2)
     }
 
     /// The share of the bound that is reached.
@@ -143,17 +152,17 @@ fn figures() -> [(Block, i128, i128, i128); 5] {
         (at::DEBIT_SURVIVOR, 641),
     ];
     [
-        // 684,000 x 17.24 + 1,710,000 x 0.84 + 327,750 x 1.47 - 2,000 x 11.73 = 13,686,892.5; 17.24 + 0.84 + 1.47 + 1 = 20.55.
-        (a_of_001(), 13_686_892_500_000, 13_686_893, 20_550_000),
-        // 266,500 x 9.27 + 89,943.75 x 1.33 = 2,590,080.1875; 9.27 + 1.33 + 1 = 11.60.
-        (b_of_003(), 2_590_080_187_500, 2_590_081, 11_600_000),
-        // 1,272,375 x 12.84 + 3,685,500 x 0.71 + 592,371 x 1.46 = 19,818,861.66; 12.84 + 0.71 + 1.46 + 1 = 16.01.
-        (d_of_001(), 19_818_861_660_000, 19_818_862, 16_010_000),
+        // 684,000 x 17.24 + 1,710,000 x 0.84 + 327,750 x 1.47 - 2,000 x 11.73 = 13,686,892.5; half of 19.55 and 1 = 10.775.
+        (a_of_001(), 13_686_892_500_000, 13_686_893, 10_775_000),
+        // 266,500 x 9.27 + 89,943.75 x 1.33 = 2,590,080.1875; half of 10.60 and 1 = 6.30.
+        (b_of_003(), 2_590_080_187_500, 2_590_081, 6_300_000),
+        // 1,272,375 x 12.84 + 3,685,500 x 0.71 + 592,371 x 1.46 = 19,818,861.66; half of 15.01 and 1 = 8.505.
+        (d_of_001(), 19_818_861_660_000, 19_818_862, 8_505_000),
         // 25,097.5 x 18.05 + 5,019.5 x (0.88 + 1.50) = 464,956.285, less 643.4999 x 20.43 = 13,146.702957.
         // Rounded 25,098 x 18.05 + 5,020 x 2.38 = 464,966.5, so 464,967, less 643 x 20.43 = 13,136.49, so 13,136.
         (aged_54(10_039, &near_the_bound), 451_809_582_043, 451_831, 21_430_000),
         // 1.5 x 18.05 - 2 x 18.05 = -9.025; rounded 2 - 2 = 0.
-        (aged_54(15_000, &[(at::PENSION, 1), (at::SCHEME_PAYS, 2)]), -9_025_000, 0, 21_430_000),
+        (aged_54(15_000, &[(at::PENSION, 1), (at::SCHEME_PAYS, 2)]), -9_025_000, 0, 10_025_000),
     ]
 }
 
