@@ -1,5 +1,4 @@
 pub mod Places
-pub mod Groups
 pub mod Order
 pub mod Sums
 pub mod Words

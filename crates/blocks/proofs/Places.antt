@@ -1,14 +1,14 @@
 -- The block's layout is in order and stays within the block; bytes that are not zero, and those that no field names.
 -- Assumes nothing.
-use Rattle.std.proofs.Common.{◌≡◌, ℕ, zero, suc, ◌+◌, ◌-◌, ◌≤◌, Bool, true, false, not, ◌||◌, cond, eqb, leb, leb-true, List, [], ◌∷◌, map, length, take, drop, get_or, sym, refl, ◌∙◌, arith, bit_or, length-drop}
-use Rattle.std.proofs.Math.Bool.{or_assoc, or-false, and-eq-true_iff}
+use Rattle.std.proofs.Common.{◌≡◌, ℕ, zero, suc, ◌+◌, ◌-◌, ◌≤◌, Bool, true, false, not, ◌||◌, cond, eqb, List, [], ◌∷◌, map, length, take, drop, get_or, sym, refl, ◌∙◌, arith, bit_or, length-drop}
+use Rattle.std.proofs.Math.Bool.{or_assoc, or-false}
 use Rattle.std.proofs.Math.Seq.{take-suc}
 use Rattle.std.proofs.lemmas.Bool.{ne_eqb}
 use Rattle.std.proofs.lemmas.List.{get_or-drop}
 use Rattle.std.proofs.lemmas.List.Folds.{list_any-append}
 use Rattle.std.proofs.lemmas.Nat.{le_or_l}
 use Rattle.std.specs.Int.Bits.{or_zero_l}
-use Rattle.std.specs.List.{fold, list_all}
+use Rattle.std.specs.List.{fold}
 use Rattle.numbers.specs.Lists.{any}
 use Rattle.numbers.proofs.Tests.{or_from}
 use Rattle.numbers.specs.Below.{any_below}
@@ -50,12 +50,6 @@ nonzero_between s p end n e h =
     let size : end - p ≡ n = omega arith in
     rw size (part_is s (p wide n) (omega arith))
 
-parts_are : (s : List ℕ) → length s ≡ 512 → (fs : List Field) → list_all (λ f. leb (f.offset + f.width) 512) fs ≡ true → any (part_nonzero s) fs ≡ any (nonzero s) fs
-parts_are s h [] e = refl
-parts_are s h (f ∷ fs) e =
-    let b = (and-eq-true_iff (leb (f.offset + f.width) 512) (list_all (λ f. leb (f.offset + f.width) 512) fs)).0 e in
-    rw (part_is s f (omega (arith, h, leb-true (f.offset + f.width) 512 b.0)), parts_are s h fs b.1)
-
 -- where two fields stand side by side there is no byte between them
 none_between : (s : List ℕ) (p : ℕ) → nonzero s (p wide 0) ≡ false
 unfolding nonzero
@@ -69,8 +63,3 @@ with_bytes (f ∷ fs) = cond (eqb f.width 0) (with_bytes fs) (f ∷ with_bytes f
 pub unnamed : (s : List ℕ) → or_from false (map (nonzero s) (with_bytes (gaps 0 512 layout))) ≡ unnamed_fault s
 unfolding unnamed_fault
 unnamed s = simp (none_between, or_assoc, or-false)
-
--- and cut out of a block
-pub unnamed_parts : (s : List ℕ) → length s ≡ 512 → any (part_nonzero s) (with_bytes (gaps 0 512 layout)) ≡ unnamed_fault s
-unfolding unnamed_fault
-unnamed_parts s h = parts_are s h (with_bytes (gaps 0 512 layout)) refl ∙ simp (none_between, or-false)

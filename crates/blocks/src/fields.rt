@@ -44,8 +44,7 @@ pub(crate) fn line_of(block: &Block, place: Place) -> Line
     }
 }
 
-// The case of a block's fields before the lines, with lines of zeros in their place. It is called once for a block: with two calls
-// the compiler inlines it into one program and not into another.
+// The case of a block's fields before the lines, with lines of zeros in their place.
 #[tactic(auto, using(buffers::proofs::Bytes::number_one), unfolding(crate::specs::Block::head_of, cases::specs::Entries::line_by))]
 pub(crate) fn head_of(block: &Block) -> Case
     ensures { result ≡ head_of block.now }

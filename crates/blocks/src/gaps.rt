@@ -14,12 +14,6 @@ fn nonzero(bytes: &[u8]) -> bool
     bytes.iter().fold(0, |bits, &byte| bits | byte) != 0
 }
 
-fn any_nonzero(parts: &[&[u8]]) -> bool
-    ensures { result ≡ any (λ part. any (λ byte. not (byte == 0)) part.now) parts.now }
-{
-    parts.iter().any(|part| nonzero(part))
-}
-
 // Whether a byte of the line at a place or of its divorce debit is not zero.
 pub(crate) fn line_nonzero(block: &Block, place: Place) -> bool
     ensures { result ≡ (nonzero block.now (line_at place.index wide 72) || nonzero block.now (divorce_debit_at place.index wide 24)) }
@@ -33,14 +27,12 @@ pub(crate) fn line_nonzero(block: &Block, place: Place) -> bool
 pub(crate) fn unnamed_fault(block: &Block) -> bool
     ensures { result ≡ unnamed_fault block.now }
 {
-    any_nonzero(&[
-        &block[2..4],
-        &block[15..16],
-        &block[36..40],
-        &block[68..72],
-        &block[140..144],
-        &block[212..216],
-        &block[284..288],
-        &block[448..508],
-    ])
+    nonzero(&block[2..4])
+        | nonzero(&block[15..16])
+        | nonzero(&block[36..40])
+        | nonzero(&block[68..72])
+        | nonzero(&block[140..144])
+        | nonzero(&block[212..216])
+        | nonzero(&block[284..288])
+        | nonzero(&block[448..508])
 }

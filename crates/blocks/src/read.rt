@@ -1,5 +1,5 @@
 // Reading a block: refusals 1 to 5, or the case that it holds.
-ghost use Rattle.std.specs.Prelude.{◌≡◌, ◌≤◌, ◌==◌, not};
+ghost use Rattle.std.specs.Prelude.{◌≡◌, ◌≤◌, ◌==◌, not, Ok, Err, IfOk, IfErr, OnOk};
 ghost use Rattle.refusals.specs.Tests.{first, verdict_number};
 ghost use Rattle.cases.specs.Layout.{check};
 ghost use Rattle.cases.specs.Form.{lines_faults, form_tests};
@@ -29,14 +29,13 @@ fn is_damaged(block: &Block) -> bool
 fn faults_of_lines(block: &Block, head: &RuledCase<'_>) -> Faults
     ensures { result ≡ lines_faults head.now.case.now (case_of block.now) }
 {
-    let RuledCase { case, rules, .. } = head;
     let mut faults = Faults::default();
     for index in 0..4 {
-        if usize::from(case.count) <= index && !line_nonzero(block, Place { index }) {
+        if usize::from(head.case.count) <= index && !line_nonzero(block, Place { index }) {
             continue;
         }
         let line = line_of(block, Place { index });
-        faults = faults | rules.faults_of_line(case.flags, case.count, index, &line);
+        faults = faults | head.faults_of_line(index, &line);
     }
     faults
 }
@@ -50,18 +49,36 @@ fn check_form(block: &Block, head: &Case) -> Result<(), Refusal>
     ruled.check_form_by(unnamed_fault(block), faults_of_lines(block, &ruled))
 }
 
+/// The block that some bytes are, if none of refusals 1 to 5 applies to it, or the first that does.
+#[tactic(auto, unfolding(crate::specs::Reading::reading_of, crate::specs::Block::head_of, crate::specs::Block::case_of, cases::specs::Entries::case_by))]
+pub fn check_block(b: &[u8]) -> Result<&Block, Refusal>
+    ensures same { IfOk result (λ block. block.now ≡ b.now) }
+    ensures ok { OnOk result (first (reading_tests b.now) ≡ Ok tt) }
+    ensures err { IfErr result (λ why. first (reading_tests b.now) ≡ Err why) }
+{
+    let block: &Block = b.try_into().map_err(|_| Refusal::Length)?;
+    refuse_if(is_damaged(block), Refusal::Check)?;
+    check_form(block, &head_of(block))?;
+    Ok(block)
+}
+
+/// The case that a block holds.
+#[tactic(auto, unfolding(crate::specs::Block::head_of, crate::specs::Block::case_of, cases::specs::Entries::case_by))]
+pub fn case_in(block: &Block) -> Case
+    ensures { result ≡ case_of block.now }
+{
+    Case {
+        lines: lines_of(block),
+        ..head_of(block)
+    }
+}
+
 /// The case that some bytes hold, if they are a block, or the first of refusals 1 to 5 that applies.
 #[tactic(auto, unfolding(crate::specs::Reading::reading_of, crate::specs::Block::head_of, crate::specs::Block::case_of, cases::specs::Entries::case_by))]
 pub fn read_block(b: &[u8]) -> Result<Case, Refusal>
     ensures reading { result ≡ reading_of b.now }
     ensures number { reading_number result ≡ verdict_number (first (reading_tests b.now)) }
 {
-    let block: &Block = b.try_into().map_err(|_| Refusal::Length)?;
-    refuse_if(is_damaged(block), Refusal::Check)?;
-    let head = head_of(block);
-    check_form(block, &head)?;
-    Ok(Case {
-        lines: lines_of(block),
-        ..head
-    })
+    let block = check_block(b)?;
+    Ok(case_in(block))
 }

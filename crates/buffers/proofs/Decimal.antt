@@ -7,7 +7,6 @@ use Rattle.std.proofs.lemmas.Fmt.{decimal_digit, decimal_step}
 use Rattle.std.proofs.Math.Seq.{set_split, take-append-add}
 use Rattle.std.proofs.Math.ListN.{drop_of_length-le}
 use Rattle.std.proofs.Math.Nat.{one-le-pow, pow-succ', add-mul-div_left, add-mul-mod_self_left, mod-add-div, div-div-eq-div-mul}
-use Rattle.std.specs.Int.{w16, to_le_bytes}
 use Rattle.buffers.specs.Decimal.{last_digit, last_digits, digits_within, decimal, fixed_point}
 
 pub length_digits : (k n : ℕ) → length (last_digits k n) ≡ k
@@ -37,16 +36,6 @@ unfolding last_digits
 digits_join j zero n = rw (add-zero, div-one, append-nil)
 digits_join j (suc k) n =
     rw (add-suc, digits_join j k (n / 10), rest_of k n) (append_assoc (last_digits j (n / 10 ^ suc k)) (last_digits k (n / 10)) (last_digit n))
-
--- two digits in one number, the first of them in its low byte
-pub two_bytes : (n : ℕ) → n < 100 → to_le_bytes w16 (48 + n / 10 + 256 * (48 + n % 10)) ≡ last_digits 2 n
-unfolding last_digits
-two_bytes n h =
-    let both : ℕ = 48 + n / 10 + 256 * (48 + n % 10) in
-    let tens : n / 10 % 10 ≡ n / 10 = mod-eq_of_lt {n = n / 10} {m = 10} (omega arith) in
-    let low : both % 256 ≡ 48 + n / 10 % 10 = omega arith in
-    let high : both / 256 % 256 ≡ 48 + n % 10 = omega arith in
-    λ i. low i ∷ high i ∷ []
 
 pub four_of_two : (n : ℕ) → last_digits 4 n ≡ last_digits 2 (n / 100) ++ last_digits 2 (n % 100)
 four_of_two n = digits_join 2 2 n ∙ ap (λ (l : List ℕ). last_digits 2 (n / 100) ++ l) (sym (digits_rest 2 n))

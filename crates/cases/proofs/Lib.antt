@@ -1,5 +1,4 @@
 pub mod Entries
-pub mod Codes
 pub mod RowsOfKinds
 pub mod PastCount
 pub mod Transfers

@@ -74,6 +74,7 @@ pub(crate) fn refer_fault(case: &Case) -> bool
 }
 
 #[tactic(auto, using(crate::proofs::Lines::any_reached))]
+#[inline(always)]
 pub(crate) fn age_fault(ruled: &RuledCase<'_>) -> bool
     ensures { result ≡ entitlement.age_fault ruled.now.case.now }
 {
