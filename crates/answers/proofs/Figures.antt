@@ -1,7 +1,7 @@
 -- The figures at the edges and those of the exact value: every row, by computing the definitions.
 -- Assumes nothing.
-use Rattle.std.proofs.Common.{map, [], ◌∷◌, ◌≡◌, refl}
-use Rattle.numbers.specs.Rounding.{nearest}
+use Rattle.std.proofs.Common.{map, [], ◌∷◌, ◌≡◌, refl, arith}
+use Rattle.numbers.specs.Rounding.{nearest, Within}
 use Rattle.numbers.specs.Below.{sum_below, any_below, how_many, fewest}
 use Rattle.calendar.specs.Dates.{days_in, is_real}
 use Rattle.calendar.specs.Moving.{in_year, age, years_ahead}
@@ -16,6 +16,7 @@ use Rattle.sums.specs.Payment.{underpin, payment}
 use Rattle.refusals.specs.declared.Refusal.TheVariants.{Award}
 use Rattle.answers.specs.declared.Outcome.TheVariants.{Paid, Refused}
 use Rattle.answers.specs.Answer.{factor_fault, tests, gross_of, items_of, answer_of, outcome_numbers}
+use Rattle.answers.specs.Compare.{near_bound}
 use Rattle.answers.specs.Figures.{figures}
 use Rattle.answers.specs.ExactFigures.{exact_figures}
 
@@ -29,6 +30,10 @@ figures_hold = both_hold.0
 
 pub exact_figures_hold : map (λ r. r.worked) exact_figures ≡ map (λ r. r.stated) exact_figures
 exact_figures_hold = both_hold.1
+
+-- where the factor is 18.05 the bound of the comparison is 19.05p, and what lies one millionth of a penny further apart is not within it
+pub near_bound_at_54 : (near_bound 1805 ≡ 19050000) × (Within (near_bound 1805) 19050001 0 → ⊥) × (Within (near_bound 1805) 0 19050001 → ⊥)
+near_bound_at_54 = (refl, (λ w. omega (arith, w.0)), (λ w. omega (arith, w.1)))
 
 -- the numbers of an answer: 0 and the amounts of a payment in the line's order, or the refusal's number
 pub numbers_shown :

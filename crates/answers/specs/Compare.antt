@@ -49,6 +49,11 @@ role_of (layout.amount i a) = cond (ltb i 4) (role_on_line i a) other
 abbrev pub factor_at : Benefit → ℕ → Case → ℕ
 factor_at b i c = factor b (factors_of c i)
 
+-- how near the product a gross value lies, in millionths of a penny, where the benefit's factor is k hundredths: that factor and one
+-- penny
+abbrev pub near_bound : ℕ → ℕ
+near_bound k = (k + 100) * 10000
+
 -- c is answered with r and d with s, and the entry of d is the larger by so many pence.
 -- A benefit: d is paid no less, and its gross value lies above c's by extra amount × revaluation factor × benefit's factor, to
 -- within that factor plus one pence. Here in millionths of a penny: the factors are ten-thousandths and hundredths.
@@ -56,7 +61,7 @@ factor_at b i c = factor b (factors_of c i)
 abbrev pub Compared : Role → Case → Outcome → Case → Outcome → ℕ → Type 0
 Compared (adds b i) c r d s extra =
     (paid r ≤ paid s) ×
-    Within ((factor_at b i c + 100) * 10000) (gross_of d * 1000000) (gross_of c * 1000000 + extra * c.revaluation * factor_at b i c)
+    Within (near_bound (factor_at b i c)) (gross_of d * 1000000) (gross_of c * 1000000 + extra * c.revaluation * factor_at b i c)
 Compared taken c r d s extra = paid s ≤ paid r
 Compared other c r d s extra = Unit
 
