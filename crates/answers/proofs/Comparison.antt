@@ -88,7 +88,7 @@ module _ (i : ℕ) (a : Amount) (c d : Case) (alike : AlikeBut (amount i a) c d)
   -- the factors, and steps 5 and 6, are the same
   factors_same : factors_of c ≡ factors_of d
   unfolding factors_of row_of
-  factors_same = fun_ext (λ j. cc (heads layout.count, heads layout.kind, heads layout.birth, heads layout.guarantee, dates j))
+  factors_same = fun_ext (λ j. cc (heads layout.count, heads layout.kind, heads layout.sex, heads layout.birth, heads layout.guarantee, dates j))
 
   payment_same : (g : ℕ) → payment c g ≡ payment d g
   unfolding payment underpin

@@ -1,7 +1,9 @@
 -- The tables' counts and ranges: one test that antt computes over a whole table, and what follows of every row found.
 -- Assumes nothing.
-use Rattle.std.proofs.Common.{ℕ, ◌-◌, ◌≤◌, arith, Bool, true, false, ◌&&◌, if◌then◌else◌, List, [], slice_get, Option, Some, None, ◌≡◌, refl, sym, eqb, leb, length, get_or, leb-true}
+use Rattle.std.proofs.Common.{ℕ, zero, suc, ◌+◌, ◌-◌, ◌≤◌, ◌<◌, arith, Bool, true, false, ◌&&◌, if◌then◌else◌, List, [], ◌∷◌, slice_get, Option, Some, None, ◌≡◌, refl, sym, eqb, leb, length, get_or, ◌++◌, ltb, le-leb, leb-true}
 use Rattle.std.proofs.Math.Bool.{and-eq-true_iff}
+use Rattle.std.proofs.Math.Nat.{sub-zero}
+use Rattle.std.proofs.lemmas.Bool.{ltb-true, ltb-false}
 use Rattle.std.proofs.lemmas.Option.{get_or_from_slice_get}
 use Rattle.std.specs.Option.{option_map}
 use Rattle.std.specs.List.{list_all}
@@ -10,7 +12,7 @@ use Rattle.factors.specs.declared.Factors.{Factors}
 use Rattle.factors.specs.declared.Table.{Table}
 use Rattle.factors.specs.declared.Table.TheVariants.{Section1995, Section2008, Scheme2015, NoTable}
 use Rattle.factors.specs.Rows.{four_columns, two_columns, found, Small}
-use Rattle.factors.specs.Tables.{section1995_table, section2008_table, scheme2015_table, row_at, row_in}
+use Rattle.factors.specs.Tables.{section1995_table, section2008_men_table, section2008_women_below60_table, section2008_women_from60_table, scheme2015_table, row_at, row_for, section2008_women_row, row_in}
 
 abbrev in_range : ℕ → Bool
 in_range n = leb 1 n && leb n 9999
@@ -56,10 +58,58 @@ small_four row at = omega (arith, at 0, at 1, at 2, at 3)
 small_two : (row : List ℕ) → ((j : ℕ) → get_or row j 0 ≤ 9999) → Small (two_columns row)
 small_two row at = omega (arith, at 0, at 1)
 
+-- of two lists one after the other, what stands in the first and what stands in the second
+slice_get_front : {A : Type 0} (xs ys : List A) (i : ℕ) → i < length xs → slice_get (xs ++ ys) i ≡ slice_get xs i
+slice_get_front [] ys i h = absurd (omega arith)
+slice_get_front (x ∷ xs) ys zero h = refl
+slice_get_front (x ∷ xs) ys (suc i) h = slice_get_front xs ys i (omega arith)
+
+slice_get_back : {A : Type 0} (xs ys : List A) (i : ℕ) → length xs ≤ i → slice_get (xs ++ ys) i ≡ slice_get ys (i - length xs)
+slice_get_back [] ys i h = rw (sub-zero i)
+slice_get_back (x ∷ xs) ys zero h = absurd (omega arith)
+slice_get_back (x ∷ xs) ys (suc i) h = let e : suc i - suc (length xs) ≡ i - length xs = omega arith in rw (e, slice_get_back xs ys i (omega arith))
+
+-- a table in two parts finds the rows of the one that they make
+row_in_parts :
+    (columns : List ℕ → Factors) (first : ℕ) (a b : List (List ℕ)) (key : ℕ) →
+    (if ltb key (first + length a) then row_at columns first a key else row_at columns (first + length a) b key) ≡ row_at columns first (a ++ b) key
+unfolding row_at
+row_in_parts columns first a b key = by_part (ltb key (first + length a)) refl
+  where
+    by_part :
+        (front : Bool) → ltb key (first + length a) ≡ front →
+        (if front then option_map columns (row_for first a key) else option_map columns (row_for (first + length a) b key)) ≡
+        option_map columns (row_for first (a ++ b) key)
+    by_part true e = by_key (leb first key) refl
+      where
+        by_key :
+            (within : Bool) → leb first key ≡ within →
+            option_map columns (if within then slice_get a (key - first) else None) ≡ option_map columns (if within then slice_get (a ++ b) (key - first) else None)
+        by_key true h = rw (slice_get_front a b (key - first) (omega (arith, ltb-true, leb-true)))
+        by_key false h = refl
+    by_part false e =
+        let past : first + length a ≤ key = omega (arith, ltb-false) in
+        let place : key - first - length a ≡ key - (first + length a) = omega arith in
+        rw (le-leb (first + length a) key past, le-leb first key (omega arith), slice_get_back a b (key - first) (omega arith), place)
+
+-- TV4 repeats the figures of TV3
+pub women_as_men : (age : ℕ) → section2008_women_row age ≡ row_at four_columns 18 section2008_men_table age
+unfolding section2008_women_row section2008_men_table section2008_women_below60_table section2008_women_from60_table
+women_as_men = row_in_parts four_columns 18 section2008_women_below60_table section2008_women_from60_table
+
+-- so one row stands for both sexes
+pub either_sex : (sex age ahead : ℕ) → row_in Section2008 sex age ahead ≡ row_at four_columns 18 section2008_men_table age
+unfolding row_in
+either_sex sex age ahead = go (eqb sex 2)
+  where
+    go : (woman : Bool) → (if woman then section2008_women_row age else row_at four_columns 18 section2008_men_table age) ≡ row_at four_columns 18 section2008_men_table age
+    go true = women_as_men age
+    go false = refl
+
 -- each table has the rows that its note has, and whatever is found in it is small
-pub small_row : (t : Table) (age ahead : ℕ) → Small (found (row_in t age ahead))
-unfolding section1995_table section2008_table scheme2015_table row_in
-small_row Section1995 age ahead = found_small four_columns small_four 22 38 4 section1995_table refl age
-small_row Section2008 age ahead = found_small four_columns small_four 18 47 4 section2008_table refl age
-small_row Scheme2015 age ahead = found_small two_columns small_two 1 50 2 scheme2015_table refl ahead
-small_row NoTable age ahead = omega arith
+pub small_row : (t : Table) (sex age ahead : ℕ) → Small (found (row_in t sex age ahead))
+unfolding section1995_table section2008_men_table scheme2015_table row_in
+small_row Section1995 sex age ahead = found_small four_columns small_four 22 38 4 section1995_table refl age
+small_row Section2008 sex age ahead = rw (either_sex sex age ahead) (found_small four_columns small_four 18 47 4 section2008_men_table refl age)
+small_row Scheme2015 sex age ahead = found_small two_columns small_two 1 50 2 scheme2015_table refl ahead
+small_row NoTable sex age ahead = omega arith

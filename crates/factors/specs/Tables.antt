@@ -1,6 +1,6 @@
 -- The factor tables of the notes, as lists of rows in hundredths, and the row that a key finds.
 -- Assumes nothing.
-use Rattle.std.specs.Prelude.{ℕ, ◌-◌, leb, if◌then◌else◌, List, [], ◌∷◌, slice_get, Option, None}
+use Rattle.std.specs.Prelude.{ℕ, ◌-◌, ◌==◌, nat_lt, leb, if◌then◌else◌, List, [], ◌∷◌, slice_get, Option, None}
 use Rattle.std.specs.Option.{option_map}
 use Rattle.factors.specs.declared.Factors.{Factors}
 use Rattle.factors.specs.declared.Table.{Table}
@@ -51,10 +51,9 @@ section1995_table =
     (1985 ∷ 97 ∷ 154 ∷ 1395 ∷ []) ∷
     (2034 ∷ 99 ∷ 154 ∷ 1437 ∷ []) ∷ []
 
--- Tables TV3 and TV4 of 001, by age from 18: A pension, B lump sum, C survivor, then the deduction. That is factor E of TV3 for men;
--- of TV4 for women it is factor E below 60 and F from 60. TV4 repeats the figures of TV3, and is not a second table.
-unfoldable pub section2008_table : List (List ℕ)
-section2008_table =
+-- Table TV3 of 001, men of the 2008 section, by age from 18: A pension, B lump sum, C survivor, E deduction.
+unfoldable pub section2008_men_table : List (List ℕ)
+section2008_men_table =
     (650 ∷ 33 ∷ 76 ∷ 465 ∷ []) ∷
     (664 ∷ 34 ∷ 80 ∷ 478 ∷ []) ∷
     (678 ∷ 35 ∷ 82 ∷ 491 ∷ []) ∷
@@ -97,6 +96,62 @@ section2008_table =
     (1504 ∷ 84 ∷ 157 ∷ 1354 ∷ []) ∷
     (1540 ∷ 86 ∷ 158 ∷ 1395 ∷ []) ∷
     (1577 ∷ 88 ∷ 158 ∷ 1437 ∷ []) ∷
+    (1615 ∷ 90 ∷ 159 ∷ 1480 ∷ []) ∷
+    (1655 ∷ 92 ∷ 159 ∷ 1526 ∷ []) ∷
+    (1696 ∷ 94 ∷ 159 ∷ 1573 ∷ []) ∷
+    (1739 ∷ 97 ∷ 159 ∷ 1623 ∷ []) ∷
+    (1783 ∷ 99 ∷ 159 ∷ 1674 ∷ []) ∷ []
+
+-- Table TV4 of 001, women of the 2008 section, which is printed in two parts. By age from 18 to 59: A pension, B lump sum,
+-- C survivor, E deduction.
+unfoldable pub section2008_women_below60_table : List (List ℕ)
+section2008_women_below60_table =
+    (650 ∷ 33 ∷ 76 ∷ 465 ∷ []) ∷
+    (664 ∷ 34 ∷ 80 ∷ 478 ∷ []) ∷
+    (678 ∷ 35 ∷ 82 ∷ 491 ∷ []) ∷
+    (693 ∷ 36 ∷ 84 ∷ 504 ∷ []) ∷
+    (707 ∷ 36 ∷ 86 ∷ 518 ∷ []) ∷
+    (722 ∷ 37 ∷ 88 ∷ 532 ∷ []) ∷
+    (738 ∷ 38 ∷ 90 ∷ 546 ∷ []) ∷
+    (753 ∷ 39 ∷ 92 ∷ 561 ∷ []) ∷
+    (769 ∷ 40 ∷ 94 ∷ 577 ∷ []) ∷
+    (785 ∷ 41 ∷ 96 ∷ 592 ∷ []) ∷
+    (802 ∷ 42 ∷ 99 ∷ 608 ∷ []) ∷
+    (819 ∷ 43 ∷ 101 ∷ 625 ∷ []) ∷
+    (836 ∷ 44 ∷ 103 ∷ 642 ∷ []) ∷
+    (854 ∷ 45 ∷ 105 ∷ 660 ∷ []) ∷
+    (872 ∷ 46 ∷ 108 ∷ 678 ∷ []) ∷
+    (891 ∷ 47 ∷ 110 ∷ 696 ∷ []) ∷
+    (910 ∷ 49 ∷ 112 ∷ 715 ∷ []) ∷
+    (929 ∷ 50 ∷ 115 ∷ 735 ∷ []) ∷
+    (949 ∷ 51 ∷ 117 ∷ 755 ∷ []) ∷
+    (970 ∷ 52 ∷ 119 ∷ 776 ∷ []) ∷
+    (990 ∷ 53 ∷ 121 ∷ 797 ∷ []) ∷
+    (1012 ∷ 55 ∷ 124 ∷ 819 ∷ []) ∷
+    (1034 ∷ 56 ∷ 126 ∷ 842 ∷ []) ∷
+    (1056 ∷ 57 ∷ 128 ∷ 865 ∷ []) ∷
+    (1079 ∷ 59 ∷ 130 ∷ 890 ∷ []) ∷
+    (1102 ∷ 60 ∷ 132 ∷ 914 ∷ []) ∷
+    (1126 ∷ 62 ∷ 134 ∷ 940 ∷ []) ∷
+    (1151 ∷ 63 ∷ 137 ∷ 966 ∷ []) ∷
+    (1176 ∷ 64 ∷ 139 ∷ 993 ∷ []) ∷
+    (1202 ∷ 66 ∷ 141 ∷ 1021 ∷ []) ∷
+    (1229 ∷ 68 ∷ 143 ∷ 1049 ∷ []) ∷
+    (1256 ∷ 69 ∷ 145 ∷ 1079 ∷ []) ∷
+    (1284 ∷ 71 ∷ 146 ∷ 1109 ∷ []) ∷
+    (1313 ∷ 73 ∷ 148 ∷ 1141 ∷ []) ∷
+    (1342 ∷ 74 ∷ 150 ∷ 1173 ∷ []) ∷
+    (1373 ∷ 76 ∷ 152 ∷ 1207 ∷ []) ∷
+    (1404 ∷ 78 ∷ 153 ∷ 1242 ∷ []) ∷
+    (1437 ∷ 80 ∷ 154 ∷ 1278 ∷ []) ∷
+    (1470 ∷ 82 ∷ 156 ∷ 1316 ∷ []) ∷
+    (1504 ∷ 84 ∷ 157 ∷ 1354 ∷ []) ∷
+    (1540 ∷ 86 ∷ 158 ∷ 1395 ∷ []) ∷
+    (1577 ∷ 88 ∷ 158 ∷ 1437 ∷ []) ∷ []
+
+-- By age from 60: A pension, B lump sum, C survivor, F deduction.
+unfoldable pub section2008_women_from60_table : List (List ℕ)
+section2008_women_from60_table =
     (1615 ∷ 90 ∷ 159 ∷ 1480 ∷ []) ∷
     (1655 ∷ 92 ∷ 159 ∷ 1526 ∷ []) ∷
     (1696 ∷ 94 ∷ 159 ∷ 1573 ∷ []) ∷
@@ -166,9 +221,16 @@ row_for first table key = if leb first key then slice_get table (key - first) el
 unfoldable pub row_at : (List ℕ → Factors) → ℕ → List (List ℕ) → ℕ → Option Factors
 row_at columns first table key = option_map columns (row_for first table key)
 
--- the row of a table, for an age or for years ahead, whichever the table goes by
-unfoldable pub row_in : Table → ℕ → ℕ → Option Factors
-row_in Section1995 age ahead = row_at four_columns 22 section1995_table age
-row_in Section2008 age ahead = row_at four_columns 18 section2008_table age
-row_in Scheme2015 age ahead = row_at two_columns 1 scheme2015_table ahead
-row_in NoTable age ahead = None
+-- the row for a woman of the 2008 section, in the part of TV4 that her age is in
+unfoldable pub section2008_women_row : ℕ → Option Factors
+section2008_women_row age =
+    if nat_lt age 60 then row_at four_columns 18 section2008_women_below60_table age
+    else row_at four_columns 60 section2008_women_from60_table age
+
+-- the row of a table, for an age or for years ahead, whichever the table goes by; the 2008 section has one for each sex, where 2 is
+-- female
+unfoldable pub row_in : Table → ℕ → ℕ → ℕ → Option Factors
+row_in Section1995 sex age ahead = row_at four_columns 22 section1995_table age
+row_in Section2008 sex age ahead = if sex == 2 then section2008_women_row age else row_at four_columns 18 section2008_men_table age
+row_in Scheme2015 sex age ahead = row_at two_columns 1 scheme2015_table ahead
+row_in NoTable sex age ahead = None

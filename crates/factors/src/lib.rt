@@ -1,9 +1,9 @@
 // The factor tables of the guidance notes, in hundredths, and looking up a row of them.
 #![tactic(auto)]
 
-ghost use Rattle.std.specs.Prelude.{◌≡◌};
+ghost use Rattle.std.specs.Prelude.{◌≡◌, ℕ};
 ghost use Rattle.factors.specs.Rows.{four_columns, two_columns, row_numbers};
-ghost use Rattle.factors.specs.Tables.{section1995_table, section2008_table, scheme2015_table, row_for, row_in};
+ghost use Rattle.factors.specs.Tables.{section1995_table, section2008_men_table, scheme2015_table, row_for, row_in};
 
 /// The factors of a line, in hundredths; zero where a kind has none.
 #[derive(Clone, Copy, Debug, Default, PartialEq, Eq)]
@@ -19,7 +19,7 @@ pub struct Factors {
 pub enum Table {
     /// By age: the 1995 section with pension age 60.
     Section1995,
-    /// By age: the 2008 section.
+    /// By age: the 2008 section, men and women.
     Section2008,
     /// By years ahead: the 2015 scheme.
     Scheme2015,
@@ -72,8 +72,8 @@ static SECTION_1995: [[u16; 4]; 38] = [
     [2034, 99, 154, 1437],
 ];
 
-// Tables TV3 and TV4 of 001 by age, from 18: A pension, B lump sum, C survivor, then the deduction. That is factor E of TV3 for men;
-// of TV4 for women it is factor E below 60 and F from 60. TV4 repeats the figures of TV3, and is not a second table.
+// Table TV3 of 001 by age, from 18: A pension, B lump sum, C survivor, E deduction. It serves women too: the law `women_as_men` says
+// that TV4 has the same figures.
 static SECTION_2008: [[u16; 4]; 47] = [
     [650, 33, 76, 465],
     [664, 34, 80, 478],
@@ -213,12 +213,12 @@ fn row_for<const N: usize>(table: &[[u16; N]], first: u32, key: u32) -> Option<[
 }
 
 impl Table {
-    /// The factors for an age in whole years or for a number of years ahead, whichever the table goes by; `None` where the table has
-    /// no such row. Both keys, though a table goes by one: else each caller would have to know which.
-    #[tactic(auto, unfolding(crate::specs::Tables::row_in, crate::specs::Tables::row_at, crate::specs::Tables::section1995_table, crate::specs::Tables::section2008_table, crate::specs::Tables::scheme2015_table))]
+    /// The factors for an age in whole years or for a number of years ahead, whichever the table goes by, and for either sex; `None`
+    /// where the table has no such row. Both keys, though a table goes by one: else each caller would have to know which.
+    #[tactic(auto, using(crate::proofs::Tables::either_sex), unfolding(crate::specs::Tables::row_in, crate::specs::Tables::row_at, crate::specs::Tables::section1995_table, crate::specs::Tables::section2008_men_table, crate::specs::Tables::scheme2015_table))]
     pub fn row(self, age: u16, ahead: u32) -> Option<Factors>
-        ensures row { result ≡ row_in self age ahead }
-        ensures numbers { row_numbers result ≡ row_numbers (row_in self age ahead) }
+        ensures row { (sex : ℕ) → result ≡ row_in self sex age ahead }
+        ensures numbers { (sex : ℕ) → row_numbers result ≡ row_numbers (row_in self sex age ahead) }
     {
         match self {
             Table::Section1995 => row_for(&SECTION_1995, 22, u32::from(age)).map(four_columns),

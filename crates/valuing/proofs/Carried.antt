@@ -15,7 +15,7 @@ use Rattle.valuing.specs.Totals.{TotalsBy, valued_below, TotalsBelow, plus_total
 use Rattle.valuing.specs.declared.sum.Totals.{Totals}
 
 -- the row that the code looks up on a line within the count
-pub row_within : (c : Case) (i : ℕ) → i < c.count → row_in (rules_of c.kind).table (age_of c) (ahead_of c i) ≡ row_of c i
+pub row_within : (c : Case) (i : ℕ) → i < c.count → row_in (rules_of c.kind).table c.sex (age_of c) (ahead_of c i) ≡ row_of c i
 unfolding row_of
 row_within c i h = rw (lt-leb c.count i h)
 

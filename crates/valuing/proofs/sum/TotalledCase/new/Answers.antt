@@ -22,7 +22,7 @@ invariant_of-line-clause-in_range c =
     rw (lines.counted, counted_line case i (omega (arith, number))) (line_in_range case (in_range case c.args.formed.formed) i (omega (arith, number)))
 
 pub invariant_of-line-clause-small : goal.invariant_of-line-clause-small
-invariant_of-line-clause-small c = rw c.row-row.ensures.row (small_row _ _ _)
+invariant_of-line-clause-small c = rw (c.row-row.ensures.row c.args.formed.case.now.sex) (small_row _ _ _ _)
 
 pub loop-line-preserved : goal.loop-line-preserved
 unfolding line_by
@@ -32,7 +32,7 @@ loop-line-preserved c =
     let lines = c.counted_lines-line-items.ensures in
     let within : i < case.count = omega (arith, few _ _ _ lines.counted lines.four) in
     let row : c.row-row.result ≡ row_of case i =
-    rw (c.row-row.ensures.row, c.years_ahead.ensures, lines.counted, counted_line case i within, c.rules_of-table.ensures, c.age-age.ensures) (row_within case i within) in
+    rw (c.row-row.ensures.row case.sex, c.years_ahead.ensures, lines.counted, counted_line case i within, c.rules_of-table.ensures, c.age-age.ensures) (row_within case i within) in
     let of_line = rw (lines.counted, counted_line case i within, row) at c.totals-of_line.ensures in
     rw c.add-totals.ensures (totals_more case i c.loop-line.totals c.totals-of_line.result c.loop-line.invariant of_line)
 
