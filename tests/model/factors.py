@@ -32,4 +32,4 @@ FACTORS = read()
 
 def table_of(case):
     """The name of the table that a case uses."""
-    return {1: "1995", 2: "2015", 3: "2008f" if case["sex"] == FEMALE else "2008m"}[case["kind"]]
+    return {1: "1995m", 2: "2015", 3: "2008f" if case["sex"] == FEMALE else "2008m"}[case["kind"]]

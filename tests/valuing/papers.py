@@ -138,7 +138,7 @@ def every_row():
         figures = {"pension": pension, "lump": lump, "survivor": survivor, "deduct": deduction}
         stated = {name: str(int(factor * 100)) for name, factor in figures.items() if factor}
         total = 100 * (pension + lump + survivor - deduction)
-        if table == "1995":
+        if table == "1995m":
             vector(f"kind 1, age {row}", paid(str(int(total)), **stated), P54, {
                 "leaving": (1985, 4, 1), "guarantee": (1967 + row, 6, 1), "line 1 survivor": 100_00,
                 "line 1 lump sum": 100_00, "line 1 modification": 100_00,

@@ -25,7 +25,7 @@ static TABLES: [Transcribed; 3] = [
     Transcribed {
         table: Table::Section1995,
         year: 1995,
-        rows: &[(b' ', "rows")],
+        rows: &[(b'm', "rows for men"), (b'f', "rows for women")],
         keys: "ages",
         first: 22,
         last: 65535,

@@ -1,6 +1,6 @@
--- The part of a block that waits for its rest: moved to the start of a buffer, and no byte of it lost.
+-- The part of a block that waits for its rest: moved to the start of a buffer, and no byte lost.
 -- Assumes nothing.
-use Rattle.std.proofs.Common.{ℕ, ◌+◌, ◌-◌, ◌%◌, ◌<◌, ◌≤◌, min, List, ◌++◌, ◌≡◌, sym, ap, ◌∙◌, arith, length, take, drop, length-take, length-drop, take_at, take_all, take-take, take-append-drop, append_assoc, zero-add, ⊎_elim}
+use Rattle.std.proofs.Common.{ℕ, ◌+◌, ◌-◌, ◌<◌, ◌≤◌, min, List, ◌++◌, ◌≡◌, sym, ap, ◌∙◌, arith, length, take, drop, length-take, length-drop, take_at, take_all, take-take, take-append-drop, append_assoc, zero-add, ⊎_elim}
 use Rattle.std.specs.List.{copy_within}
 use Rattle.std.proofs.Math.Seq.{drop-append-le}
 use Rattle.std.proofs.lemmas.Bool.{cases_lt}
@@ -8,21 +8,19 @@ use Rattle.runs.specs.declared.Counts.{Counts}
 use Rattle.runs.specs.declared.Source.{Source}
 use Rattle.runs.specs.declared.Source.TheVariants.{Open, Ended, Failed}
 use Rattle.runs.specs.Run.{wanted_after}
-use Rattle.runs.specs.Steps.{wanted_unless, came, chunk, last_part}
+use Rattle.runs.specs.Steps.{bytes_taken, came, chunk, waiting_part}
 
-pub length_last : (bytes : List ℕ) → length (last_part bytes) ≡ length bytes % 512
-unfolding last_part
-length_last bytes = simp length-drop (omega arith)
-
-pub part_moved : (bytes after : List ℕ) → after ≡ copy_within bytes (length bytes - length bytes % 512) (length bytes) 0
-    → after ≡ last_part bytes ++ drop (length bytes % 512) bytes
-unfolding last_part
-part_moved bytes after is =
-    let n : ℕ = length bytes % 512 in
-    let at : ℕ = length bytes - n in
-    let count : length bytes - at ≡ n = omega arith in
-    is ∙ ap (λ (m : ℕ). take m (drop at bytes) ++ drop (0 + m) bytes) count
+pub part_moved : (bytes after : List ℕ) (at : ℕ) → after ≡ copy_within bytes at (length bytes) 0 → after ≡ drop at bytes ++ drop (length bytes - at) bytes
+part_moved bytes after at is =
+    let n : ℕ = length bytes - at in
+    is
     ∙ ap (λ l. l ++ drop (0 + n) bytes) (take_all n (drop at bytes) (simp length-drop (omega arith))) ∙ ap (λ (m : ℕ). drop at bytes ++ drop m bytes) (zero-add n)
+
+-- no more is taken than came, and what is not taken is less than a block
+pub taken_few : (source : Source) (n : ℕ) → (bytes_taken source n ≤ n) × (n < bytes_taken source n + 512)
+taken_few Open n = (omega arith, omega arith)
+taken_few Ended n = (omega arith, omega arith)
+taken_few Failed n = (omega arith, omega arith)
 
 -- as many bytes as came
 pub take_came : (t : Counts) (input : List ℕ) (end : ℕ) → end ≡ min (length input) (wanted_after t) → take end input ≡ came t input
@@ -40,21 +38,14 @@ part_kept input part end held low room =
     append_assoc part (drop held (take end input)) (drop end input)
     ∙ ap (λ l. part ++ l) (sym (drop-append-le held (take end input) (drop end input) long) ∙ ap (drop held) (take-append-drop end input))
 
--- what a step takes while more can come, and the part that waits, are together all the bytes that came
-all_kept : (t : Counts) (input : List ℕ) → chunk t input Open ++ last_part (came t input) ≡ came t input
-unfolding chunk last_part
-all_kept t input =
-    let k : ℕ = length (came t input) - length (came t input) % 512 in
-    let low : k ≤ wanted_after t = omega (arith, length-take (wanted_after t) input) in
-    ap (λ l. l ++ drop k (came t input)) (sym (take-take k (wanted_after t) input low)) ∙ take-append-drop k (came t input)
-
--- so while more is wanted no byte is lost or counted twice: the part stands at the start of the buffer
-pub none_lost : (t : Counts) (input : List ℕ) (source : Source) (counts : Counts) {held : ℕ} {after : List ℕ} → 0 < wanted_unless source counts
-    → held ≡ length (last_part (came t input)) → after ≡ last_part (came t input) ++ drop held input
+-- what a step takes, and the part that waits at the start of the buffer, are together all the bytes that came: none is lost or counted
+-- twice
+pub none_lost : (t : Counts) (input : List ℕ) (source : Source) {held : ℕ} {after : List ℕ}
+    → held ≡ length (waiting_part t input source) → after ≡ waiting_part t input source ++ drop held input
     → chunk t input source ++ take held after ≡ came t input
-none_lost t input Open counts {held} {after} more e a =
-    let part : List ℕ = last_part (came t input) in
-    let front : take held after ≡ part = rw a (take_at part _ held (sym e)) in
-    rw front (all_kept t input)
-none_lost t input Ended counts more e a = absurd (omega arith)
-none_lost t input Failed counts more e a = absurd (omega arith)
+unfolding chunk waiting_part
+none_lost t input source {held} {after} e a =
+    let k : ℕ = bytes_taken source (length (came t input)) in
+    let low : k ≤ wanted_after t = omega (arith, length-take (wanted_after t) input, taken_few source (length (came t input))) in
+    let front : take held after ≡ waiting_part t input source = rw a (take_at (waiting_part t input source) _ held (sym e)) in
+    rw front (ap (λ l. l ++ drop k (came t input)) (sym (take-take k (wanted_after t) input low)) ∙ take-append-drop k (came t input))

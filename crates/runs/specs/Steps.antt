@@ -37,15 +37,15 @@ ends Failed wanted = false
 abbrev pub came : Counts → List ℕ → List ℕ
 came t input = take (wanted_after t) input
 
--- the last part of a block among some bytes
-unfoldable pub last_part : List ℕ → List ℕ
-last_part bytes = drop (length bytes - length bytes % 512) bytes
-
 -- a step with the bytes of input
 module _ (t : Counts) (input : List ℕ) (source : Source) where
   -- the bytes that count
   unfoldable pub chunk : List ℕ
   chunk = take (bytes_taken source (length (came t input))) input
+
+  -- the bytes that came and do not count: a part of a block that waits for its rest, and none where the file has ended
+  unfoldable pub waiting_part : List ℕ
+  waiting_part = drop (bytes_taken source (length (came t input))) (came t input)
 
   abbrev pub counts_after : Counts
   counts_after = counted t (all_blocks chunk)
@@ -58,7 +58,7 @@ module _ (t : Counts) (input : List ℕ) (source : Source) where
   step_text = lines (t.blocks + 1) (all_blocks chunk) ++ cond (ends source wanted_next) (end_line counts_after.blocks counts_after.paid) []
 
   abbrev pub step_of : Progress
-  step_of = record { counts = counts_after; wanted = wanted_next; held = length (last_part (came t input)); length = length step_text }
+  step_of = record { counts = counts_after; wanted = wanted_next; held = length waiting_part; length = length step_text }
 
 -- a text that reports the bytes done: they are whole blocks, no more than may be read; the counts are theirs, and the text is the
 -- header and their lines

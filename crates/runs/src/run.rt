@@ -2,11 +2,11 @@
 ghost use Rattle.std.specs.Prelude.{◌≡◌, [], ◌++◌, ◌+◌, ◌%◌, ◌≤◌, ◌<◌, min, length, take, drop};
 ghost use Rattle.report.specs.Lines.{header};
 ghost use Rattle.runs.specs.Run.{left, wanted_after};
-ghost use Rattle.runs.specs.Steps.{bytes_taken, wanted_unless, ends, came, last_part, start_of, step_of, chunk, step_text, Reported, Continues};
+ghost use Rattle.runs.specs.Steps.{bytes_taken, wanted_unless, ends, came, start_of, step_of, chunk, waiting_part, step_text, Reported, Continues};
 
 use crate::chunk::put_lines;
 use crate::line::put_end;
-use crate::part::keep_part;
+use crate::part::keep_from;
 use crate::{BLOCK_SIZE, Counts, INPUT_SIZE, Output, Progress, Source};
 use report::form_header;
 
@@ -75,23 +75,24 @@ pub fn start(out: &mut Output) -> Progress
     }
 }
 
-/// Continues a run with the bytes of `input`, the part of a block that was held among them. While more can come, a last part of a block
-/// waits at the start of `input` for its rest, which the caller reads in after it. The counts alone, and no struct of the run: any
-/// counts and any bytes are answered, whoever made them.
+/// Continues a run with the bytes of `input`, the part of a block that was held among them. A last part of a block waits at the start of
+/// `input` for its rest, which the caller reads in after it; where the file has ended it counts as a block, and `input` keeps its bytes.
+/// The counts alone, and no struct of the run: any counts and any bytes are answered, whoever made them.
 pub fn step(counts: Counts, input: &mut [u8], source: Source, out: &mut Output) -> Progress
     ensures answer { result ≡ step_of counts input.old source }
     ensures bytes { out.new ≡ step_text counts input.old source ++ drop result.length out.old }
     ensures file { Continues counts input.old source result (take result.length out.new) }
-    ensures part { input.new ≡ last_part (came counts input.old) ++ drop result.held input.old }
-    ensures all { 0 < result.wanted → chunk counts input.old source ++ take result.held input.new ≡ came counts input.old }
+    ensures part { input.new ≡ waiting_part counts input.old source ++ drop result.held input.old }
+    ensures all { chunk counts input.old source ++ take result.held input.new ≡ came counts input.old }
     ensures room { ((result.wanted ≤ 65536) × (result.wanted % 512 ≡ 0)) × ((result.held < 512) × (result.length ≤ 33024)) }
     ensures less { (source ≡ Source.Open → 512 ≤ length input.old) → left result.counts + min 1 result.wanted ≤ left counts }
 {
     let end = input.len().min(counts.wanted());
-    let lines = put_lines(&input[..source.bytes_taken(end)], counts, out);
+    let taken = source.bytes_taken(end);
+    let lines = put_lines(&input[..taken], counts, out);
     let wanted = source.wanted(lines.counts);
     let length = put_end(out, lines.length, lines.counts, source.ends(wanted));
-    let held = keep_part(&mut input[..end]);
+    let held = keep_from(&mut input[..end], taken);
     Progress {
         counts: lines.counts,
         wanted,

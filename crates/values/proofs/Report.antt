@@ -11,7 +11,7 @@ use Rattle.runs.specs.declared.Progress.{Progress}
 use Rattle.runs.specs.declared.Source.{Source}
 use Rattle.runs.specs.declared.Source.TheVariants.{Open, Ended, Failed}
 use Rattle.runs.specs.Run.{wanted_after, report_of}
-use Rattle.runs.specs.Steps.{bytes_taken, wanted_unless, came, last_part, chunk, counts_after, start_of, step_of, Reported, Continues}
+use Rattle.runs.specs.Steps.{bytes_taken, wanted_unless, came, chunk, waiting_part, counts_after, start_of, step_of, Reported, Continues}
 use Rattle.runs.proofs.Reports.{reported_start}
 
 -- what holds of the bytes read with any others after them holds of the file
@@ -180,21 +180,21 @@ module _ {file left next begun now : Option (List ℕ)} {run after : Progress} {
 
     -- new stands in place of these bytes after the step
     pub goes_on : (new : List ℕ) → after ≡ step_of run.counts (take got (buf ++ drop run.wanted input)) s
-        → new ≡ last_part (came run.counts (take got (buf ++ drop run.wanted input))) ++ drop after.held (take got (buf ++ drop run.wanted input))
-        → (0 < after.wanted → chunk run.counts (take got (buf ++ drop run.wanted input)) s ++ take after.held new ≡ came run.counts (take got (buf ++ drop run.wanted input)))
+        → new ≡ waiting_part run.counts (take got (buf ++ drop run.wanted input)) s ++ drop after.held (take got (buf ++ drop run.wanted input))
+        → chunk run.counts (take got (buf ++ drop run.wanted input)) s ++ take after.held new ≡ came run.counts (take got (buf ++ drop run.wanted input))
         → 0 < after.wanted → Going file next begun later after (new ++ drop got (buf ++ drop run.wanted input))
     goes_on new is part all more =
         let wanted_is : after.wanted ≡ wanted_unless s (counts_after run.counts bytes s) = ap (λ (p : Progress). p.wanted) is in
         let counts_is : after.counts ≡ counts_after run.counts bytes s = ap (λ (p : Progress). p.counts) is in
-        let held_is : after.held ≡ length (last_part (came run.counts bytes)) = ap (λ (p : Progress). p.held) is in
-        let room : after.held ≤ length new = omega (arith, ap length part, length-append (last_part (came run.counts bytes)) (drop after.held bytes)) in
+        let held_is : after.held ≡ length (waiting_part run.counts bytes s) = ap (λ (p : Progress). p.held) is in
+        let room : after.held ≤ length new = omega (arith, ap length part, length-append (waiting_part run.counts bytes s) (drop after.held bytes)) in
         record {
           done = before.done ++ taken;
           written = before.written ++ text;
           want = wanted_is ∙ more_wanted s _ (subst (λ k. 0 < k) wanted_is more) ∙ ap wanted_after (sym counts_is);
           told = adds.going before.done before.written before.told more;
           read = subst (Consumes file next)
-              (ap (λ l. before.done ++ l) (sym all_came ∙ sym (all more) ∙ ap (λ l. taken ++ l) (sym (take-append-le after.held new (drop got (buf ++ drop run.wanted input)) room)))
+              (ap (λ l. before.done ++ l) (sym all_came ∙ sym all ∙ ap (λ l. taken ++ l) (sym (take-append-le after.held new (drop got (buf ++ drop run.wanted input)) room)))
               ∙ sym (append_assoc before.done taken (take after.held (new ++ drop got (buf ++ drop run.wanted input)))))
               all_read;
           wrote = all_written;

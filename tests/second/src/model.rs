@@ -401,7 +401,10 @@ pub fn revalued(amount: u64, revaluation: u64) -> i128 {
 pub type Table = BTreeMap<i64, Factors>;
 
 /// The tables by their names in figures/factors.txt, each with its first and its last key.
-pub const TABLES: [(&str, i64, i64); 4] = [("1995", 22, 59), ("2008m", 18, 64), ("2008f", 18, 64), ("2015", 1, 50)];
+pub const TABLES: [(&str, i64, i64); 4] = [("1995m", 22, 59), ("2008m", 18, 64), ("2008f", 18, 64), ("2015", 1, 50)];
+
+/// The table for women of the 1995 section. A case of kind 1 has no sex, so it must have the rows of that for men.
+const WOMEN_1995: &str = "1995f";
 
 /// The place in `TABLES` of the table for a case of this kind and sex.
 pub fn table_place(kind: u64, sex: u64) -> usize {
@@ -415,6 +418,7 @@ pub fn table_place(kind: u64, sex: u64) -> usize {
 
 pub struct Model {
     tables: [Table; 4],
+    women_1995: Table,
     unnamed: Vec<usize>,
 }
 
@@ -423,7 +427,7 @@ impl Model {
     pub fn from_text(text: &str) -> Result<Model, String> {
         let named = named_bytes();
         let unnamed = (0..BLOCK_LENGTH).filter(|&i| !named[i]).collect();
-        let mut model = Model { tables: Default::default(), unnamed };
+        let mut model = Model { tables: Default::default(), women_1995: Table::new(), unnamed };
         for row in text.lines().filter(|row| !row.starts_with('#') && !row.trim().is_empty()) {
             model.take_row(row).ok_or_else(|| format!("not a row of factors: {row}"))?;
         }
@@ -431,12 +435,15 @@ impl Model {
         Ok(model)
     }
 
-    /// Every row must be there, and no other. TV3 and TV4 must be those that are copied from 001 here.
+    /// Every row must be there, and no other. TV1 and TV2 must be the same, TV3 and TV4 those that are copied from 001 here.
     fn check_tables(&self) -> Result<(), String> {
         for ((name, first, last), table) in TABLES.iter().zip(&self.tables) {
             if !table.keys().copied().eq(*first..=*last) {
                 return Err(format!("rows of factors, {name}: not {first} to {last}"));
             }
+        }
+        if self.women_1995 != self.tables[table_place(1, 0)] {
+            return Err(format!("rows of factors, {WOMEN_1995}: not those for men"));
         }
         for (sex, copied) in [(MALE, tables::men_2008()), (FEMALE, tables::women_2008())] {
             let place = table_place(3, sex);
@@ -450,14 +457,19 @@ impl Model {
     fn take_row(&mut self, row: &str) -> Option<()> {
         let words: Vec<&str> = row.split_whitespace().collect();
         let key: i64 = words.get(1)?.parse().ok()?;
-        let place = TABLES.iter().position(|(name, _, _)| *name == words[0])?;
         let figures: Option<Vec<i128>> = words[2..].iter().map(|word| hundredths(word)).collect();
-        let factors = match (place, &figures?[..]) {
-            (0..=2, &[pension, lump, survivor, deduct]) => Factors { pension, lump, survivor, deduct },
-            (3, &[pension, survivor]) => Factors { pension, survivor, ..Factors::default() },
+        let factors = match (words[0], &figures?[..]) {
+            ("2015", &[pension, survivor]) => Factors { pension, survivor, ..Factors::default() },
+            ("2015", _) => return None,
+            (_, &[pension, lump, survivor, deduct]) => Factors { pension, lump, survivor, deduct },
             _ => return None,
         };
-        self.tables[place].insert(key, factors).is_none().then_some(())
+        let table = match TABLES.iter().position(|(name, _, _)| *name == words[0]) {
+            Some(place) => &mut self.tables[place],
+            None if words[0] == WOMEN_1995 => &mut self.women_1995,
+            None => return None,
+        };
+        table.insert(key, factors).is_none().then_some(())
     }
 
     pub fn unnamed_bytes(&self) -> &[usize] {
