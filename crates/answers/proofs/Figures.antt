@@ -1,6 +1,6 @@
 -- The figures at the edges and those of the exact value: every row, by computing the definitions.
 -- Assumes nothing.
-use Rattle.std.proofs.Common.{map, [], ◌∷◌, ◌≡◌, refl, arith}
+use Rattle.std.proofs.Common.{map, ◌≡◌, refl, arith}
 use Rattle.numbers.specs.Rounding.{nearest, Within}
 use Rattle.numbers.specs.Below.{sum_below, any_below, how_many, fewest}
 use Rattle.calendar.specs.Dates.{days_in, is_real}
@@ -13,11 +13,9 @@ use Rattle.sums.specs.Rows.{row_of, factors_of}
 use Rattle.sums.specs.Sum.{valued_on, deduction, credit, negative_fault, first_value, debit_value, award_fault, gross_by, scheme_pays_fault}
 use Rattle.sums.specs.Exact.{exact_added, exact_scheme_pays, exact_debit, factors_on}
 use Rattle.sums.specs.Payment.{underpin, payment}
-use Rattle.refusals.specs.declared.Refusal.TheVariants.{Award}
-use Rattle.answers.specs.declared.Outcome.TheVariants.{Paid, Refused}
-use Rattle.answers.specs.Answer.{factor_fault, tests, gross_of, items_of, answer_of, outcome_numbers}
+use Rattle.answers.specs.Answer.{factor_fault, tests, gross_of, items_of, answer_of}
 use Rattle.answers.specs.Compare.{near_bound}
-use Rattle.answers.specs.Figures.{figures}
+use Rattle.answers.specs.Figures.{figures, outcome_figures}
 use Rattle.answers.specs.ExactFigures.{exact_figures}
 
 both_hold :
@@ -35,9 +33,5 @@ exact_figures_hold = both_hold.1
 pub near_bound_at_54 : (near_bound 1805 ≡ 19050000) × (Within (near_bound 1805) 19050001 0 → ⊥) × (Within (near_bound 1805) 0 19050001 → ⊥)
 near_bound_at_54 = (refl, (λ w. omega (arith, w.0)), (λ w. omega (arith, w.1)))
 
--- the numbers of an answer: 0 and the amounts of a payment in the line's order, or the refusal's number
-pub numbers_shown :
-    (outcome_numbers (Paid (record { payment = 1; pension = 2; lump = 3; survivor = 4; deduction = 5; underpin = 6; avc = 7 })) ≡
-    0 ∷ 1 ∷ 2 ∷ 3 ∷ 4 ∷ 5 ∷ 6 ∷ 7 ∷ []) ×
-    (outcome_numbers (Refused Award) ≡ 16 ∷ [])
-numbers_shown = (refl, refl)
+pub outcome_figures_hold : map (λ r. r.worked) outcome_figures ≡ map (λ r. r.stated) outcome_figures
+outcome_figures_hold = refl

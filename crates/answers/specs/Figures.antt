@@ -1,19 +1,20 @@
 -- The figures at the edges that are proved: nine rows, what the definitions work out beside what 01 and the change requests state.
 -- Assumes nothing.
-use Rattle.std.specs.Prelude.{ℕ, ◌-◌, List, [], ◌∷◌}
+use Rattle.std.specs.Prelude.{ℕ, ◌-◌, List, [], ◌∷◌, map}
 use Rattle.std.proofs.Math.Logic.{ite}
 use Rattle.calendar.specs.Moving.{age, years_ahead}
 use Rattle.calendar.specs.declared.Date.{Date}
 use Rattle.cases.specs.Layout.{Amount, amount_discrete, pension, additional, survivor, dependant, lump, modification, scheme_pays}
 use Rattle.cases.specs.Entries.{line_with, line_by, line, age_of}
 use Rattle.refusals.specs.Refusals.{number_of}
+use Rattle.refusals.specs.declared.Refusal.TheVariants.{Award}
 use Rattle.cases.specs.declared.Line.{Line}
 use Rattle.cases.specs.declared.Case.{Case}
 use Rattle.sums.specs.Rows.{factors_of}
 use Rattle.sums.specs.Sum.{Benefit, member_pension, survivor_pension, revalued, reduced, factor, credit, deduction}
 use Rattle.answers.specs.declared.Outcome.{Outcome}
 use Rattle.answers.specs.declared.Outcome.TheVariants.{Paid, Refused}
-use Rattle.answers.specs.Answer.{gross_of, answer_of}
+use Rattle.answers.specs.Answer.{gross_of, answer_of, outcome_numbers}
 
 -- what a row shows: numbers; of a case that is paid its gross value and payment in pence, of another the refusal's number
 pub data Shown : Type 0 where
@@ -119,6 +120,11 @@ infix 4 ◌is◌
 abbrev pub ◌is◌ : List Shown → List Shown → Figure
 ◌is◌ w s = record { worked = w; stated = s }
 
+-- a row of numbers alone
+infix 4 ◌shows◌
+abbrev pub ◌shows◌ : List ℕ → List ℕ → Figure
+◌shows◌ w s = map number w is map number s
+
 abbrev pub figures : List Figure
 figures =
     (number (revalued 10660 84375) ∷ [] is number 89944 ∷ []) ∷
@@ -134,3 +140,10 @@ figures =
     (number (age (date 1 6 1967) (date 31 5 2020)) ∷ number (age (date 1 6 1967) (date 1 6 2020)) ∷ [] is number 52 ∷ number 53 ∷ []) ∷
     (number (years_ahead (date 3 7 2021) (date 3 7 2047)) ∷ number (years_ahead (date 3 7 2021) (date 4 7 2047)) ∷ []
     is number 26 ∷ number 27 ∷ []) ∷ []
+
+-- an outcome in numbers: of a payment 0 and its amounts in the order of a line, of a refusal its number
+abbrev pub outcome_figures : List Figure
+outcome_figures =
+    (outcome_numbers (Paid (record { payment = 1; pension = 2; lump = 3; survivor = 4; deduction = 5; underpin = 6; avc = 7 })) shows
+    0 ∷ 1 ∷ 2 ∷ 3 ∷ 4 ∷ 5 ∷ 6 ∷ 7 ∷ []) ∷
+    (outcome_numbers (Refused Award) shows 16 ∷ []) ∷ []

@@ -1,11 +1,13 @@
--- The report of three blocks: a payment of kind 1, one of kind 2, and a block that is refused.
+-- The report of three blocks: a payment of kind 1, one of kind 2, and a block that is refused; and what forming a line answers.
 -- Assumes nothing.
-use Rattle.std.proofs.Common.{◌≡◌, refl, codes}
+use Rattle.std.proofs.Common.{◌≡◌, refl, codes, map}
 use Rattle.buffers.specs.Decimal.{last_digits, digits_within, decimal}
 use Rattle.refusals.specs.declared.Refusal.TheVariants.{Kind}
 use Rattle.answers.specs.declared.Answer.{Answer}
 use Rattle.answers.specs.declared.Outcome.TheVariants.{Paid, Refused}
 use Rattle.report.specs.Lines.{paid_text, refused_text, line_of, end_line}
+use Rattle.report.specs.Forming.{formed_as}
+use Rattle.report.specs.Figures.{forming_figures}
 
 abbrev first : Answer
 first =
@@ -63,3 +65,7 @@ end = refl
 pub end_of_nothing : end_line 0 0 ≡ codes "end 0 blocks 0 paid\n"
 unfolding end_line decimal digits_within
 end_of_nothing = refl
+
+pub forming_figures_hold : map (λ r. r.worked) forming_figures ≡ map (λ r. r.stated) forming_figures
+unfolding formed_as line_of refused_text decimal digits_within
+forming_figures_hold = refl

@@ -1,2 +1,3 @@
 pub mod Totals
 pub mod Block
+pub mod Figures
