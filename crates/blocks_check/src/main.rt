@@ -1,6 +1,6 @@
 // Reads records from standard input, a 16-bit length, low byte first, and so many bytes each, and prints a line for each: its
 // number from 1, and the refusal or every field of the case in block order. It stops at a record that is longer than 513 bytes,
-// and where the input ends. The last line says that no refused reading has a case, which its type shows.
+// and where the input ends.
 #![tactic(auto)]
 
 use blocks::read_block;
@@ -140,6 +140,6 @@ fn main(rt: HostRuntime) -> io::Result<()> {
     match print_readings(&rt, &mut rt.stdin()) {
         Err(e) if e.kind() != ErrorKind::UnexpectedEof => Err(e),
         // The input has ended, or a record is too long.
-        _ => println!(rt; "0 refused readings with a field"),
+        _ => Ok(()),
     }
 }
