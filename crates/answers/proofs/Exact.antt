@@ -20,7 +20,7 @@ answer_near_exact c n = (
   gross_near_exact (factors_of c) c (none_given Debit (tests c) n) (none_given Negative (tests c) n) (none_given Award (tests c) n),
 )
 
--- without a divorce debit, within half a penny less
+-- without a divorce debit, within a bound that is half a penny less
 pub accepted_near_without_divorce :
     (c : Case) → Accepted c → ((b : Benefit) (j : ℕ) → debited b (line c j) ≡ 0) →
     WithinOfExact (factors_of c) c (factors_on (factors_of c) (λ i b. entered b (line c i)) * 5000 + 500000) (gross_of c)

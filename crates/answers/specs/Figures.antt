@@ -1,4 +1,5 @@
--- The figures at the edges that are proved: nine rows, what the definitions work out beside what 01 and the change requests state.
+-- The figures at the edges that are proved: nine rows, what the definitions work out beside what 01 and the change requests state; and
+-- outcomes in numbers.
 -- Assumes nothing.
 use Rattle.std.specs.Prelude.{ℕ, ◌-◌, List, [], ◌∷◌, map}
 use Rattle.std.proofs.Math.Logic.{ite}
@@ -7,7 +8,7 @@ use Rattle.calendar.specs.declared.Date.{Date}
 use Rattle.cases.specs.Layout.{Amount, amount_discrete, pension, additional, survivor, dependant, lump, modification, scheme_pays}
 use Rattle.cases.specs.Entries.{line_with, line_by, line, age_of}
 use Rattle.refusals.specs.Refusals.{number_of}
-use Rattle.refusals.specs.declared.Refusal.TheVariants.{Award}
+use Rattle.refusals.specs.declared.Refusal.TheVariants.{Length, Award}
 use Rattle.cases.specs.declared.Line.{Line}
 use Rattle.cases.specs.declared.Case.{Case}
 use Rattle.sums.specs.Rows.{factors_of}
@@ -141,9 +142,11 @@ figures =
     (number (years_ahead (date 3 7 2021) (date 3 7 2047)) ∷ number (years_ahead (date 3 7 2021) (date 4 7 2047)) ∷ []
     is number 26 ∷ number 27 ∷ []) ∷ []
 
--- an outcome in numbers: of a payment 0 and its amounts in the order of a line, of a refusal its number
+-- an outcome in numbers: of a payment 0 and its amounts in the order of a line, of a refusal its number; Example A of 001 is one
 abbrev pub outcome_figures : List Figure
 outcome_figures =
     (outcome_numbers (Paid (record { payment = 1; pension = 2; lump = 3; survivor = 4; deduction = 5; underpin = 6; avc = 7 })) shows
     0 ∷ 1 ∷ 2 ∷ 3 ∷ 4 ∷ 5 ∷ 6 ∷ 7 ∷ []) ∷
+    (outcome_numbers (answer_of example_a) shows 0 ∷ 13686893 ∷ 1179216000 ∷ 143640000 ∷ 48179250 ∷ 2346000 ∷ 0 ∷ 0 ∷ []) ∷
+    (outcome_numbers (Refused Length) shows 1 ∷ []) ∷
     (outcome_numbers (Refused Award) shows 16 ∷ []) ∷ []

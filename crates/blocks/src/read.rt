@@ -1,5 +1,6 @@
 // Reading a block: refusals 1 to 5, or the case that it holds.
 ghost use Rattle.std.specs.Prelude.{◌≡◌, ◌≤◌, ◌==◌, not, Ok, Err, IfOk, IfErr, OnOk};
+ghost use Rattle.refusals.specs.Refusals.{number_of};
 ghost use Rattle.refusals.specs.Tests.{first, verdict_number};
 ghost use Rattle.cases.specs.Layout.{check};
 ghost use Rattle.cases.specs.Form.{lines_faults, form_tests};
@@ -49,12 +50,12 @@ fn check_form(block: &Block, head: &Case) -> Result<(), Refusal>
     ruled.check_form_by(unnamed_fault(block), faults_of_lines(block, &ruled))
 }
 
-/// The block that some bytes are, if none of refusals 1 to 5 applies to it, or the first that does.
-#[tactic(auto, unfolding(crate::specs::Reading::reading_of, crate::specs::Block::head_of, crate::specs::Block::case_of, cases::specs::Entries::case_by))]
+/// Some bytes as a block, if none of refusals 1 to 5 applies, or the first of them that does.
 pub fn check_block(b: &[u8]) -> Result<&Block, Refusal>
     ensures same { IfOk result (λ block. block.now ≡ b.now) }
     ensures ok { OnOk result (first (reading_tests b.now) ≡ Ok tt) }
     ensures err { IfErr result (λ why. first (reading_tests b.now) ≡ Err why) }
+    ensures number { IfErr result (λ why. number_of why ≡ verdict_number (first (reading_tests b.now))) }
 {
     let block: &Block = b.try_into().map_err(|_| Refusal::Length)?;
     refuse_if(is_damaged(block), Refusal::Check)?;
@@ -62,7 +63,7 @@ pub fn check_block(b: &[u8]) -> Result<&Block, Refusal>
     Ok(block)
 }
 
-/// The case that a block holds.
+/// The case that a block holds, whether or not reading would refuse it.
 #[tactic(auto, unfolding(crate::specs::Block::head_of, crate::specs::Block::case_of, cases::specs::Entries::case_by))]
 pub fn case_in(block: &Block) -> Case
     ensures { result ≡ case_of block.now }
@@ -74,7 +75,7 @@ pub fn case_in(block: &Block) -> Case
 }
 
 /// The case that some bytes hold, if they are a block, or the first of refusals 1 to 5 that applies.
-#[tactic(auto, unfolding(crate::specs::Reading::reading_of, crate::specs::Block::head_of, crate::specs::Block::case_of, cases::specs::Entries::case_by))]
+#[tactic(auto, unfolding(crate::specs::Reading::reading_of))]
 pub fn read_block(b: &[u8]) -> Result<Case, Refusal>
     ensures reading { result ≡ reading_of b.now }
     ensures number { reading_number result ≡ verdict_number (first (reading_tests b.now)) }

@@ -3,7 +3,7 @@
 ghost use Rattle.std.specs.Prelude.{◌≡◌, ◌+◌, ◌-◌, ◌^◌, ◌≤◌, ◌<◌, length};
 ghost use Rattle.buffers.specs.Decimal.{last_digits, decimal, fixed_point};
 
-// The two digits of each number below 100.
+// The two digits of each number below 100, in ASCII.
 static PAIRS: [[u8; 2]; 100] = [
     [48, 48],
     [48, 49],

@@ -113,11 +113,12 @@ impl Case {
 }
 
 impl RuledCase<'_> {
-    /// What the line at a place, from 0, of a case like this one breaks. Past the count nearly every line is zeros and breaks nothing, so
-    /// it is not tested further.
+    /// What a line at a place, from 0, breaks in a case of this kind with these flags and this count. Past the count nearly every line is
+    /// zeros and breaks nothing, so it is not tested further.
     #[tactic(auto, using(crate::proofs::PastCount::range_within, crate::proofs::PastCount::range_past), unfolding(crate::specs::Form::line_reserved_fault))]
     pub fn faults_of_line(&self, place: usize, line: &Line) -> Faults
-        ensures { result ≡ line_faults self.now.rules self.now.case.now.flags self.now.case.now.count place line.now }
+        ensures { let c = self.now.case.now in
+            result ≡ line_faults self.now.rules c.flags c.count place line.now }
     {
         let RuledCase { case, rules, .. } = self;
         if place < usize::from(case.count) {

@@ -73,6 +73,7 @@ pub(crate) fn refer_fault(case: &Case) -> bool
     gmp_flag(case.flags) && case.state_pension < NEW_STATE_PENSION
 }
 
+// Inlined: for a call the `RuledCase` would be laid out in memory.
 #[tactic(auto, using(crate::proofs::Lines::any_reached))]
 #[inline(always)]
 pub(crate) fn age_fault(ruled: &RuledCase<'_>) -> bool

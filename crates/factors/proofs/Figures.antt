@@ -13,8 +13,8 @@ section table sex age = row_numbers (row_in table sex age 0)
 abbrev scheme : ℕ → List ℕ
 scheme years = row_numbers (row_in Scheme2015 0 0 years)
 
--- 1995 at ages 21, 22, 52, 54, 59, 60; 2008, men at ages 17, 18, 35, 50, 63, 64, 65, women at ages 17, 59, 60, 63, 65; 2015 at 0, 2,
--- 25, 51 years
+-- 1995 at ages 21, 22, 52, 54, 59, 60; 2008, men at ages 17, 18, 35, 50, 63, 64, 65, women at ages 17, 18, 59, 60, 63, 64,
+-- 65; 2015 at 0, 2, 25, 51 years
 pub printed :
     (map (section Section1995 0) (21 ∷ 22 ∷ 52 ∷ 54 ∷ 59 ∷ 60 ∷ []) ≡
     (0 ∷ []) ∷
@@ -31,11 +31,13 @@ pub printed :
     (1 ∷ 1739 ∷ 97 ∷ 159 ∷ 1623 ∷ []) ∷
     (1 ∷ 1783 ∷ 99 ∷ 159 ∷ 1674 ∷ []) ∷
     (0 ∷ []) ∷ []) ×
-    (map (section Section2008 2) (17 ∷ 59 ∷ 60 ∷ 63 ∷ 65 ∷ []) ≡
+    (map (section Section2008 2) (17 ∷ 18 ∷ 59 ∷ 60 ∷ 63 ∷ 64 ∷ 65 ∷ []) ≡
     (0 ∷ []) ∷
+    (1 ∷ 650 ∷ 33 ∷ 76 ∷ 465 ∷ []) ∷
     (1 ∷ 1577 ∷ 88 ∷ 158 ∷ 1437 ∷ []) ∷
     (1 ∷ 1615 ∷ 90 ∷ 159 ∷ 1480 ∷ []) ∷
     (1 ∷ 1739 ∷ 97 ∷ 159 ∷ 1623 ∷ []) ∷
+    (1 ∷ 1783 ∷ 99 ∷ 159 ∷ 1674 ∷ []) ∷
     (0 ∷ []) ∷ []) ×
     (map scheme (0 ∷ 2 ∷ 25 ∷ 51 ∷ []) ≡
     (0 ∷ []) ∷

@@ -149,7 +149,7 @@ section2008_women_below60_table =
     (1540 ∷ 86 ∷ 158 ∷ 1395 ∷ []) ∷
     (1577 ∷ 88 ∷ 158 ∷ 1437 ∷ []) ∷ []
 
--- By age from 60: A pension, B lump sum, C survivor, F deduction.
+-- The second part of TV4, by age from 60: A pension, B lump sum, C survivor, F deduction.
 unfoldable pub section2008_women_from60_table : List (List ℕ)
 section2008_women_from60_table =
     (1615 ∷ 90 ∷ 159 ∷ 1480 ∷ []) ∷

@@ -15,5 +15,5 @@ sum_within zero d g h o = omega arith
 sum_within (suc n) d g h o = omega (arith, sum_within n d g h (λ j p. o j (omega arith)), o n (omega arith))
 
 -- what lies further apart is not within
-pub apart : (Within 1 2 0 → ⊥) × (Within 1 0 2 → ⊥)
-apart = ((λ w. omega (arith, w.0)), (λ w. omega (arith, w.1)))
+pub further_not_within : (Within 1 2 0 → ⊥) × (Within 1 0 2 → ⊥)
+further_not_within = ((λ w. omega (arith, w.0)), (λ w. omega (arith, w.1)))

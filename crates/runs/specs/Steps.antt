@@ -43,7 +43,7 @@ module _ (t : Counts) (input : List ℕ) (source : Source) where
   unfoldable pub chunk : List ℕ
   chunk = take (bytes_taken source (length (came t input))) input
 
-  -- the bytes that came and do not count: a part of a block that waits for its rest, and none where the file has ended
+  -- the bytes that came and do not count: a part of a block, which waits for its rest unless a read failed; none where the file has ended
   unfoldable pub waiting_part : List ℕ
   waiting_part = drop (bytes_taken source (length (came t input))) (came t input)
 

@@ -40,10 +40,10 @@ pub struct Counts {
     pub paid: u32,
 }
 
-/// How far a run has come: the counts; how many bytes the next step takes at most, 0 where the run is over; how many of these stand at
-/// the start of the input already, a part of a block that waits for its rest; and how many bytes at the start of the output to write
-/// before that. Lengths, since input and output are lent by the caller. `wanted` is no `Option`: `Some(0)` would be a second way to
-/// say that the run is over.
+/// How far a run has come: the counts; how many bytes the next step takes at most, 0 where the run is over; how many bytes of a part of
+/// a block stand at the start of the input already, which waits for its rest or, where a read failed, is what came of a block, 0 where
+/// the file has ended; and how many bytes at the start of the output to write before the next step. Lengths, since input and output are
+/// lent by the caller. `wanted` is no `Option`: `Some(0)` would be a second way to say that the run is over.
 #[derive(Clone, Copy, Debug, PartialEq, Eq)]
 pub struct Progress {
     pub counts: Counts,

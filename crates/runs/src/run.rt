@@ -76,8 +76,9 @@ pub fn start(out: &mut Output) -> Progress
 }
 
 /// Continues a run with the bytes of `input`, the part of a block that was held among them. A last part of a block waits at the start of
-/// `input` for its rest, which the caller reads in after it; where the file has ended it counts as a block, and `input` keeps its bytes.
-/// The counts alone, and no struct of the run: any counts and any bytes are answered, whoever made them.
+/// `input` for its rest, which the caller reads in after it; where a read failed it stands there too, and no step follows; where the file
+/// has ended it counts as a block, and `input` keeps its bytes. The counts alone, and no struct of the run: any counts and any bytes are
+/// answered, whoever made them.
 pub fn step(counts: Counts, input: &mut [u8], source: Source, out: &mut Output) -> Progress
     ensures answer { result ≡ step_of counts input.old source }
     ensures bytes { out.new ≡ step_text counts input.old source ++ drop result.length out.old }

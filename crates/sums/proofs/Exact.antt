@@ -1,7 +1,7 @@
 -- How far the gross value lies from the exact one, under any factors. Each rounding moves a number by half a unit at most: an amount
 -- by half a penny, which its factor multiplies, and the first value and the debit value by half a penny each.
 -- Assumes nothing.
-use Rattle.std.proofs.Common.{ℕ, ◌+◌, ◌-◌, ◌*◌, ◌≤◌, ◌<◌, Bool, true, false, cond, ◌≡◌, refl, add-mul, mul_right_comm, zero-mul, arith, lit<, leb, eqb, eqb-true}
+use Rattle.std.proofs.Common.{ℕ, [], ◌∷◌, ◌+◌, ◌-◌, ◌*◌, ◌≤◌, ◌<◌, Bool, true, false, cond, ◌≡◌, refl, add-mul, mul_right_comm, zero-mul, arith, lit<, eqb, eqb-true}
 use Rattle.numbers.specs.Rounding.{nearest, Within}
 use Rattle.numbers.specs.Below.{sum_below}
 use Rattle.numbers.proofs.Rounding.{nearest_half}
@@ -9,7 +9,6 @@ use Rattle.numbers.proofs.Within.{within_mul, sum_within}
 use Rattle.numbers.proofs.Below.{sum_plus, sum_times}
 use Rattle.cases.specs.Entries.{line, line_by, case_by}
 use Rattle.cases.specs.declared.Case.{Case}
-use Rattle.factors.specs.Rows.{no_factors}
 use Rattle.factors.specs.declared.Factors.{Factors}
 use Rattle.sums.specs.Sum.{Benefit, member_pension, lump_sum, survivor_pension, entered, revalued, debited, revalued_debit, factor, over_lines, over_benefits, valued_on, deduction, credit, negative_fault, first_value, debit_value, award_fault, gross_by, scheme_pays_fault}
 use Rattle.sums.specs.Exact.{exact_added, exact_scheme_pays, exact_deduction, exact_debit, WithinOfExact, factors_on, exact_bound, NearExact}
@@ -132,15 +131,27 @@ module _ (f : ℕ → Factors) (c : Case) where
           no_debits f c none (λ x. x * c.revaluation) (zero-mul c.revaluation),
         )
 
--- a line with the factors of kind 1 at 54 has a bound of 21.43p where every amount is filled, and of 1p where none is
+-- four lines with the factors of kind 1 at 54 have a bound of 82.72p where every amount is filled, and of 1p where none is
 abbrev at_54 : ℕ → Factors
-at_54 i = cond (leb 1 i) no_factors (record { pension = 1805; lump = 88; survivor = 150; deduction = 1242 })
+at_54 i = record { pension = 1805; lump = 88; survivor = 150; deduction = 1242 }
 
-bound_at_54 : (exact_bound at_54 (case_by (λ e. 1)) ≡ 21430000) × (exact_bound at_54 (case_by (λ e. 0)) ≡ 1000000)
+bound_at_54 : (exact_bound at_54 (case_by (λ e. 1)) ≡ 82720000) × (exact_bound at_54 (case_by (λ e. 0)) ≡ 1000000)
 unfolding factors_on sum_below case_by line_by
 bound_at_54 = (refl, refl)
 
--- so of a case of zeros a gross value of 1p is near, and one of 2p is not
-near_at_54 : NearExact at_54 (case_by (λ e. 0)) 1 × (NearExact at_54 (case_by (λ e. 0)) 2 → ⊥)
+-- a hundred pounds of pension on line 1, not revalued
+abbrev hundred_pounds : Case
+hundred_pounds = record (case_by (λ e. 0)) { revaluation = 10000; lines = record (line_by (λ e. 0) 0) { pension = 10000 } ∷ [] }
+
+-- its exact value is £1,805.00 and its bound 10.025p: 10p above or below is near, and 11p is not
+near_at_54 :
+    (NearExact at_54 hundred_pounds 180510 × NearExact at_54 hundred_pounds 180490) ×
+    ((NearExact at_54 hundred_pounds 180511 → ⊥) × (NearExact at_54 hundred_pounds 180489 → ⊥))
 unfolding factors_on sum_below case_by line_by exact_added exact_scheme_pays exact_debit valued_on deduction
-near_at_54 = (omega arith, λ w. let h : 2000000 ≤ 1000000 = w.0 in omega (arith, h))
+near_at_54 = (
+  (omega arith, omega arith),
+  (
+    (λ w. let h : 180511000000 ≤ 180510025000 = w.0 in omega (arith, h)),
+    (λ w. let h : 180500000000 ≤ 180499025000 = w.1 in omega (arith, h)),
+  ),
+)

@@ -35,7 +35,8 @@ module _ (f : ℕ → Factors) (c : Case) where
   abbrev pub WithinOfExact : ℕ → ℕ → Type 0
   WithinOfExact n g = Within n (g * 1000000 + exact_taken) exact_added
 
--- the factors used on some amounts, over all benefits and lines, in hundredths: an amount of zero is not rounded, so none is used on it
+-- the sum of the factors used on some amounts, over all benefits and lines, in hundredths: none is used on an amount of zero, on which
+-- nothing is rounded
 unfoldable pub factors_on : (ℕ → Factors) → (ℕ → Benefit → ℕ) → ℕ
 factors_on f amount = over_benefits (λ b. over_lines (λ i. cond (eqb (amount i b) 0) 0 (factor b (f i))))
 

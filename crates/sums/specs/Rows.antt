@@ -13,8 +13,8 @@ use Rattle.factors.specs.declared.Factors.{Factors}
 abbrev pub ahead_of : Case → ℕ → ℕ
 ahead_of c i = years_ahead c.guarantee (line c i).date
 
--- the row used on line i, in the table of the kind and, where it has one for each, of the sex; a line past the count is zero and has
--- factors of zero
+-- the row used on line i: in the table of the kind or, where the kind has one for each sex, of the kind and the sex; a line past the
+-- count is zero and has factors of zero
 unfoldable pub row_of : Case → ℕ → Option Factors
 row_of c i = cond (leb c.count i) (Some no_factors) (row_in (rules_of c.kind).table c.sex (age_of c) (ahead_of c i))
 

@@ -1,5 +1,5 @@
 // What the program is asked by its arguments. Without one it values the case file on standard input.
-ghost use Rattle.std.specs.Prelude.{◌≡◌, ◌↔◌, codes};
+ghost use Rattle.std.specs.Prelude.{◌≡◌, ◌≢◌, ◌↔◌, codes};
 
 use std::env::{Env, FillError};
 
@@ -14,6 +14,7 @@ pub(crate) enum Request {
 fn asked_by(word: &[u8]) -> Request
     ensures help { (word.now ≡ codes "--help") ↔ (result ≡ Request.Help) }
     ensures version { (word.now ≡ codes "--version") ↔ (result ≡ Request.Version) }
+    ensures report { result ≢ Request.Report }
 {
     match word {
         b"--help" => Request::Help,

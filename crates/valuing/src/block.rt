@@ -13,7 +13,8 @@ use crate::valuation::value_formed;
 use answers::{Answer, Outcome};
 use blocks::{Block, case_in, check_block};
 
-// The answer to a block that was read. A function of its own: a case is a large local, which is cleared where its function begins.
+// The answer to a block that was read. Apart from `value_block`, which would set the memory of the case to zeros before its fields are
+// written; inlined, as it is called once.
 #[inline(always)]
 fn value_case(block: &Block) -> Answer
     requires { first (reading_tests block.now) ≡ Ok tt }

@@ -25,6 +25,15 @@ impl FormedCase<'_> {
             0
         }
     }
+
+    // What is paid of a gross value.
+    #[tactic(auto, unfolding(sums::specs::Payment::payment), using(crate::proofs::Ranges::formed_in_range))]
+    fn payment(&self, gross: u64) -> u64
+        requires { gross < 2 ^ 62 }
+        ensures { result ≡ payment.payment self.now.case.now gross }
+    {
+        gross.max(self.underpin()) + self.case.avc
+    }
 }
 
 impl TotalledCase<'_> {
@@ -57,17 +66,16 @@ impl TotalledCase<'_> {
         ensures { let c = self.now.formed.case.now in result ≡ unless_negative c (unless_award c (Ok (items_of c))) }
     {
         let gross = self.gross_value()?;
-        let underpin = self.formed.underpin();
-        let avc = self.formed.case.avc;
+        let formed = &self.formed;
         let totals = &self.totals;
         Ok(Items {
-            payment: gross.max(underpin) + avc,
+            payment: formed.payment(gross),
             pension: totals.pension,
             lump: totals.lump,
             survivor: totals.survivor,
             deduction: totals.deduction,
-            underpin,
-            avc,
+            underpin: formed.underpin(),
+            avc: formed.case.avc,
         })
     }
 }
