@@ -49,8 +49,8 @@ role_of (layout.amount i a) = cond (ltb i 4) (role_on_line i a) other
 abbrev pub factor_at : Benefit → ℕ → Case → ℕ
 factor_at b i c = factor b (factors_of c i)
 
--- how near the product a gross value lies, in millionths of a penny, where the benefit's factor is k hundredths: that factor and one
--- penny
+-- how far the difference of two gross values may lie from the exact product, in millionths of a penny, where the benefit's factor is
+-- k hundredths: that factor, in pence, and one penny
 abbrev pub near_bound : ℕ → ℕ
 near_bound k = (k + 100) * 10000
 
