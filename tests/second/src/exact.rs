@@ -1,7 +1,7 @@
 //! How far the gross value lies from the exact one (change request No. 14). The exact value is the sum worked as a fraction with
 //! nothing rounded. Here it is in millionths of a penny, of which it is a whole number, and in 128 bits.
 
-use crate::examples::{a_of_001, b_of_003, d_of_001, sealed};
+use crate::examples::{a_of_001, b_of_003, c_of_003, d_of_001, sealed};
 use crate::figures::aged_54;
 use crate::generator::*;
 use crate::library::Lent;
@@ -142,7 +142,7 @@ fn paid_gross(lent: &mut Lent, block: &Block) -> Option<i128> {
 }
 
 /// Cases with their exact value, their gross value in pence and the bound, all worked out by hand.
-fn figures() -> [(Block, i128, i128, i128); 5] {
+fn figures() -> [(Block, i128, i128, i128); 6] {
     let near_the_bound = [
         (at::PENSION, 25_000),
         (at::LUMP, 5_000),
@@ -156,6 +156,8 @@ fn figures() -> [(Block, i128, i128, i128); 5] {
         (a_of_001(), 13_686_892_500_000, 13_686_893, 10_775_000),
         // 266,500 x 9.27 + 89,943.75 x 1.33 = 2,590,080.1875; half of 10.60 and 1 = 6.30.
         (b_of_003(), 2_590_080_187_500, 2_590_081, 6_300_000),
+        // 367,360 x 16.65 + 123,984 x 1.60 = 6,314,918.4; half of 18.25 and 1 = 10.125.
+        (c_of_003(), 6_314_918_400_000, 6_314_918, 10_125_000),
         // 1,272,375 x 12.84 + 3,685,500 x 0.71 + 592,371 x 1.46 = 19,818,861.66; half of 15.01 and 1 = 8.505.
         (d_of_001(), 19_818_861_660_000, 19_818_862, 8_505_000),
         // 25,097.5 x 18.05 + 5,019.5 x (0.88 + 1.50) = 464,956.285, less 643.4999 x 20.43 = 13,146.702957.

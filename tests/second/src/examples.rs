@@ -81,7 +81,7 @@ pub fn b_of_003() -> Block {
 }
 
 /// The pension date printed first is before age 65, so the 65th birthday stands.
-fn c_of_003() -> Block {
+pub fn c_of_003() -> Block {
     let mut block = member(2, 4, date(1952, 11, 1), date(2015, 11, 1), date(2016, 2, 1));
     block.put(at::REVALUATION, 4, 10_496);
     put_line_date(&mut block, 1, date(2017, 11, 1));
