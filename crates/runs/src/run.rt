@@ -84,7 +84,8 @@ pub fn step(counts: Counts, input: &mut [u8], source: Source, out: &mut Output) 
     ensures bytes { out.new ≡ step_text counts input.old source ++ drop result.length out.old }
     ensures file { Continues counts input.old source result (take result.length out.new) }
     ensures part { input.new ≡ waiting_part counts input.old source ++ drop result.held input.old }
-    ensures all { chunk counts input.old source ++ take result.held input.new ≡ came counts input.old }
+    ensures all { chunk counts input.old source ++ take result.held input.new
+        ≡ came counts input.old }
     ensures room { ((result.wanted ≤ 65536) × (result.wanted % 512 ≡ 0)) × ((result.held < 512) × (result.length ≤ 33024)) }
     ensures less { (source ≡ Source.Open → 512 ≤ length input.old) → left result.counts + min 1 result.wanted ≤ left counts }
 {

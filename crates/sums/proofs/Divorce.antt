@@ -20,7 +20,7 @@ revalued_none v = rw (zero-mul v) refl
 
 pub no_value : (f : ℕ → Factors) (x : ℕ → Benefit → ℕ) (b : Benefit) → ((j : ℕ) → x j b ≡ 0) → valued_on f x b ≡ 0
 unfolding valued_on sum_below
-no_value f x b h = rw (h 0, h 1, h 2, h 3) (simp zero-mul)
+no_value f x b h = simp (h, zero-mul)
 
 module _ (f : ℕ → Factors) (c : Case) (none : (b : Benefit) (j : ℕ) → debited b (line c j) ≡ 0) where
   -- what g makes of the debits is worth 0, where g makes 0 of 0
