@@ -1,4 +1,5 @@
 pub mod Places
+pub mod Groups
 pub mod Order
 pub mod Sums
 pub mod Words

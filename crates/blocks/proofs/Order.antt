@@ -1,16 +1,18 @@
 -- The refusals of reading.
 -- Assumes nothing.
 use Rattle.std.proofs.Common.{◌≡◌, ℕ, Bool, ◌||◌, List, refl, sym, ap, ◌∙◌, arith, Ok, Err}
+use Rattle.std.specs.Prelude.{Result}
 use Rattle.std.specs.Result.{result_and}
 use Rattle.numbers.proofs.Tests.{or_false}
-use Rattle.refusals.specs.Tests.{first, NoneOf, Verdict}
+use Rattle.refusals.specs.Tests.{first, NoneOf, Verdict, verdict_number}
+use Rattle.refusals.specs.declared.Refusal.{Refusal}
 use Rattle.refusals.proofs.Order.{first_none}
 use Rattle.cases.specs.Entries.{case_by, any_line}
 use Rattle.cases.specs.Kinds.{rules_of}
 use Rattle.cases.specs.Form.{kind_fault, line_reserved_fault, line_range_fault, head_reserved_fault, reserved_fault, dates_range_fault, head_range_fault, range_fault, form_tests, form_tests_by, WellFormed}
 use Rattle.cases.specs.declared.Case.{Case}
 use Rattle.blocks.specs.Block.{head_of, case_of, unnamed_fault}
-use Rattle.blocks.specs.Reading.{reading_tests, reading_of}
+use Rattle.blocks.specs.Reading.{reading_tests, reading_of, reading_number}
 
 -- the refusals of a block's case, from its fields before the lines and from what its lines break
 pub by_head :
@@ -22,6 +24,16 @@ pub by_head :
     ≡ form_tests unnamed (case_of s)
 unfolding head_of case_of case_by reserved_fault range_fault head_reserved_fault head_range_fault dates_range_fault
 by_head s unnamed = refl
+
+-- the number that a reading gives is that of the first refusal that applies, or 0; no proof cites it, docs/PORT.md names it
+pub numbered :
+    (r : Result Case Refusal) (s : List ℕ) → r ≡ reading_of s → reading_number r ≡ verdict_number (first (reading_tests s))
+unfolding reading_of
+numbered r s e = ap reading_number e ∙ kept (first (reading_tests s))
+  where
+    kept : (v : Verdict) → reading_number (result_and v (Ok (case_of s))) ≡ verdict_number v
+    kept (Ok u) = refl
+    kept (Err why) = refl
 
 -- a case that was read is well formed
 pub read_well_formed : (s : List ℕ) {c : Case} → reading_of s ≡ Ok c → WellFormed c

@@ -1,6 +1,6 @@
 -- The check, from the sums of its words.
 -- Assumes nothing.
-use Rattle.std.proofs.Common.{◌≡◌, ℕ, ◌+◌, ◌-◌, ◌*◌, ◌/◌, ◌%◌, ◌<◌, ◌≤◌, List, length, take, get_or, le-ltb, lt-ltb, ap, ◌∙◌, add-zero, add-mul, mul-le-mul_left, mul-add, arith}
+use Rattle.std.proofs.Common.{◌≡◌, ℕ, ◌+◌, ◌-◌, ◌*◌, ◌/◌, ◌%◌, ◌<◌, ◌≤◌, List, length, take, get_or, le-ltb, lt-ltb, sym, ap, ◌∙◌, add-zero, add-mul, mul-le-mul_left, mul-add, arith}
 use Rattle.std.proofs.lemmas.List.{get_or-take}
 use Rattle.numbers.specs.Below.{sum_below}
 use Rattle.numbers.proofs.Below.{sum_split, sum_plus, sum_times, sum_same, sum_rows, sum_columns}
@@ -70,6 +70,16 @@ cancel x y k p q e = omega arith
 
 same_modulo : (x y q : ℕ) → x ≡ y + 4294967296 * q → x % 4294967296 ≡ y % 4294967296
 same_modulo x y q e = omega arith
+
+-- modulo 2^32: where 256 times odd is taken off words, and odd is added once again, 255 times odd is taken off; no proof cites it,
+-- docs/PORT.md names it
+pub taken_off :
+    (words odd even r : ℕ) → (even + odd % 16777216 * 256) % 4294967296 ≡ words → r ≡ (even + odd) % 4294967296 →
+    (r + 255 * odd) % 4294967296 ≡ words
+taken_off words odd even r sub add =
+    sym (same_modulo (even + 256 * odd) (r + 255 * odd) ((even + odd) / 4294967296) (omega arith))
+    ∙ same_modulo (even + 256 * odd) (even + odd % 16777216 * 256) (odd / 16777216) (omega arith)
+    ∙ sub
 
 left_is :
     (r w o p q : ℕ) → r < 4294967296 → p < 4294967296 → w ≡ (p + 255 * q) % 4294967296 → o ≡ q % 4294967296 →

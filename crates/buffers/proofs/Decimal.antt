@@ -7,6 +7,8 @@ use Rattle.std.proofs.lemmas.Fmt.{decimal_digit, decimal_step}
 use Rattle.std.proofs.Math.Seq.{set_split, take-append-add}
 use Rattle.std.proofs.Math.ListN.{drop_of_length-le}
 use Rattle.std.proofs.Math.Nat.{one-le-pow, pow-succ', add-mul-div_left, add-mul-mod_self_left, mod-add-div, div-div-eq-div-mul}
+use Rattle.buffers.specs.Text.{put_at}
+use Rattle.buffers.proofs.Writing.{put_over, put_back}
 use Rattle.buffers.specs.Decimal.{last_digit, last_digits, digits_within, decimal, fixed_point}
 
 pub length_digits : (k n : ℕ) → length (last_digits k n) ≡ k
@@ -25,7 +27,7 @@ digits_above (suc k) a q =
     let e : a + 10 ^ suc k * q ≡ a + 10 * (10 ^ k * q) = ap (λ (m : ℕ). a + m) (ap (λ (m : ℕ). m * q) (pow-succ' 10 k) ∙ mul_assoc 10 (10 ^ k) q) in
     rw (e, add-mul-div_left a (10 ^ k * q) {y = 10} (lit< tt), add-mul-mod_self_left a 10 (10 ^ k * q), digits_above k (a / 10) q)
 
-digits_rest : (k n : ℕ) → last_digits k (n % 10 ^ k) ≡ last_digits k n
+pub digits_rest : (k n : ℕ) → last_digits k (n % 10 ^ k) ≡ last_digits k n
 digits_rest k n = sym (digits_above k (n % 10 ^ k) (n / 10 ^ k)) ∙ ap (last_digits k) (mod-add-div n (10 ^ k))
 
 rest_of : (k n : ℕ) → n / 10 / 10 ^ k ≡ n / 10 ^ suc k
@@ -149,7 +151,7 @@ decimal_short (suc (suc k)) n h l =
     (cases_lt n 10)
 
 -- and one of 10 ^ k or more has more than k
-decimal_long : (k n : ℕ) → 10 ^ k ≤ n → k < length (decimal n)
+pub decimal_long : (k n : ℕ) → 10 ^ k ≤ n → k < length (decimal n)
 decimal_long zero n h = decimal_some n
 decimal_long (suc k) n h =
     let h' : 10 ^ k * 10 ≤ n = rw pow-suc at h in
@@ -179,7 +181,7 @@ decimal_join (suc k) n h =
     rw (decimal_more n (omega arith), decimal_join k (n / 10) p, rest_of k n)
     (append_assoc (decimal (n / 10 ^ suc k)) (last_digits k (n / 10)) (last_digit n))
 
-decimal_fewer : (k n : ℕ) → 10 ^ k ≤ n → length (decimal n) ≡ length (decimal (n / 10 ^ k)) + k
+pub decimal_fewer : (k n : ℕ) → 10 ^ k ≤ n → length (decimal n) ≡ length (decimal (n / 10 ^ k)) + k
 decimal_fewer k n h =
     ap length (decimal_join k n h) ∙ length-append (decimal (n / 10 ^ k)) (last_digits k n) ∙ ap (λ (m : ℕ). length (decimal (n / 10 ^ k)) + m) (length_digits k n)
 
@@ -189,10 +191,19 @@ four_fewer = decimal_fewer 4
 pub two_fewer : (n : ℕ) → 100 ≤ n → length (decimal n) ≡ length (decimal (n / 100)) + 2
 two_fewer = decimal_fewer 2
 
--- they are written first
-put_last_of : (b : List ℕ) (k n end : ℕ) → 10 ^ k ≤ n → end ≡ length (decimal n) → end ≤ length b
+-- the last k are written first, anywhere in a buffer; no proof cites it, docs/DESIGN-PASS.md names it
+pub put_last_of : (b : List ℕ) (at k n : ℕ) {end : ℕ} → 10 ^ k ≤ n → end ≡ at + length (decimal n) → end ≤ length b
+    → put_at (put_at b (end - k) (last_digits k (n % 10 ^ k))) at (decimal (n / 10 ^ k)) ≡ put_at b at (decimal n)
+put_last_of b at k n {end} h stop room =
+    let lk = length_digits k n in
+    let ln = decimal_fewer k n h in
+    let e : end - k ≡ at + length (decimal (n / 10 ^ k)) = omega arith in
+    rw (e, digits_rest k n, decimal_join k n h) (put_back b at (decimal (n / 10 ^ k)) (last_digits k n) (omega arith))
+
+-- and the same from the start of a part of a buffer, byte for byte
+put_last_at_start : (b : List ℕ) (k n end : ℕ) → 10 ^ k ≤ n → end ≡ length (decimal n) → end ≤ length b
     → decimal (n / 10 ^ k) ++ drop (end - k) (take (end - k) b ++ (last_digits k (n % 10 ^ k) ++ drop k (drop (end - k) b))) ≡ decimal n ++ drop end b
-put_last_of b k n end h stop room =
+put_last_at_start b k n end h stop room =
     let fewer = decimal_fewer k n h in
     let lt : length (take (end - k) b) ≡ end - k = length-take-le (end - k) b (omega arith) in
     let e : end - k + k ≡ end = omega arith in
@@ -201,20 +212,27 @@ put_last_of b k n end h stop room =
 
 pub put_last_four : (b : List ℕ) (n end : ℕ) → 10000 ≤ n → end ≡ length (decimal n) → end ≤ length b
     → decimal (n / 10000) ++ drop (end - 4) (take (end - 4) b ++ (last_digits 4 (n % 10000) ++ drop 4 (drop (end - 4) b))) ≡ decimal n ++ drop end b
-put_last_four b = put_last_of b 4
+put_last_four b = put_last_at_start b 4
 
 pub put_last_two : (b : List ℕ) (n end : ℕ) → 100 ≤ n → end ≡ length (decimal n) → end ≤ length b
     → decimal (n / 100) ++ drop (end - 2) (take (end - 2) b ++ (last_digits 2 (n % 100) ++ drop 2 (drop (end - 2) b))) ≡ decimal n ++ drop end b
-put_last_two b = put_last_of b 2
+put_last_two b = put_last_at_start b 2
 
 -- what gives the digits of a number in fours and twos, the last of them first
 pub ruleset in_fours_and_twos = (four_fewer, two_fewer, put_last_four, put_last_two, length-take-le)
 
--- a number of one digit
-pub put_one : (b : List ℕ) (n : ℕ) → n < 10 → length b ≡ 1 → set b 0 (48 + n) ≡ decimal n
-put_one [] n h l = absurd (omega arith)
-put_one (x ∷ []) n h l = sym (rw (mod-eq_of_lt h) at (decimal_one n h))
-put_one (x ∷ y ∷ b) n h l = absurd (omega arith)
+-- a number of one digit, anywhere in a buffer; no proof cites it, docs/DESIGN-PASS.md names it
+pub put_one : (b : List ℕ) (at n : ℕ) → n < 10 → at < length b → set b at (48 + n) ≡ put_at b at (decimal n)
+put_one b at n h room =
+    let one : decimal n ≡ (48 + n) ∷ [] = decimal_one n h ∙ ap (λ (m : ℕ). (48 + m) ∷ []) (mod-eq_of_lt h) in
+    let over : put_at b at ((48 + n) ∷ []) ≡ take at b ++ ((48 + n) ∷ drop (suc at) b) = put_over b at ((48 + n) ∷ []) (omega arith) ∙ simp (append_assoc, add-one) in
+    set_split b at (48 + n) room ∙ sym over ∙ ap (put_at b at) (sym one)
+
+-- and over the one byte of a part of a buffer
+pub over_one : (b : List ℕ) (n : ℕ) → n < 10 → length b ≡ 1 → set b 0 (48 + n) ≡ decimal n
+over_one [] n h l = absurd (omega arith)
+over_one (x ∷ []) n h l = sym (rw (mod-eq_of_lt h) at (decimal_one n h))
+over_one (x ∷ y ∷ b) n h l = absurd (omega arith)
 
 pub decimal_two : (n : ℕ) → 10 ≤ n → n < 100 → decimal n ≡ last_digits 2 n
 unfolding last_digits
@@ -222,4 +240,4 @@ decimal_two n h l =
     decimal_more n h ∙ ap (λ (t : List ℕ). t ++ last_digit n) (decimal_one (n / 10) (omega arith))
 
 -- what gives a number of at most two digits
-pub ruleset up_to_two_digits = (length_one, length_two, put_one, decimal_two, over_two)
+pub ruleset up_to_two_digits = (length_one, length_two, over_one, decimal_two, over_two)

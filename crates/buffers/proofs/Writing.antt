@@ -1,7 +1,7 @@
 -- The laws of writing a text: over the buffer, the position and the text; and of texts written one after the other.
 -- Assumes nothing.
-use Rattle.std.proofs.Common.{ℕ, ◌+◌, ◌≤◌, List, [], ◌++◌, append_assoc, append-nil, ◌≡◌, refl, sym, ap, ◌∙◌, add-zero, zero-add, arith, length, take, drop, length-append, length-take, length-drop, take-append-drop, take_at, drop-drop, le-leb}
-use Rattle.std.proofs.Math.Seq.{drop-append-le, drop-append-add}
+use Rattle.std.proofs.Common.{ℕ, ◌+◌, ◌≤◌, List, [], ◌++◌, append_assoc, append-nil, ◌≡◌, refl, sym, ap, ◌∙◌, add-zero, zero-add, arith, length, take, drop, length-append, length-take, length-drop, take-append-drop, take-take, take_at, drop_at, drop-drop, length-take-le, le-leb}
+use Rattle.std.proofs.Math.Seq.{take-append-le, drop-append-le, drop-append-add}
 use Rattle.buffers.specs.declared.text.Text.{Text}
 use Rattle.buffers.specs.Text.{put_at, put_end, Written, WrittenIfRoom, Puts, PutsIfRoom}
 
@@ -44,6 +44,21 @@ put_put b p t u h =
     rw (e, put_over (front ++ rest) n u (omega arith), put_over b p (t ++ u) (omega arith), take_at front rest n lf, d)
     (ap (λ (l : List ℕ). l ++ drop (p + length (t ++ u)) b) (append_assoc (take p b) t u))
 
+-- and the same where the second is written first
+pub put_back : (b : List ℕ) (p : ℕ) (t u : List ℕ) → p + length t + length u ≤ length b
+    → put_at (put_at b (p + length t) u) p t ≡ put_at b p (t ++ u)
+put_back b p t u h =
+    let n : ℕ = p + length t in
+    let front : List ℕ = take n b in
+    let rest : List ℕ = drop (n + length u) b in
+    let lf : length front ≡ n = length-take-le n b (omega arith) in
+    let e : put_at b n u ≡ front ++ (u ++ rest) = put_over b n u (omega arith) ∙ append_assoc front u rest in
+    let le : length (front ++ (u ++ rest)) ≡ length b = sym (ap length e) ∙ length_put b n u (omega arith) in
+    let f : take p (front ++ (u ++ rest)) ≡ take p b = take-append-le p front (u ++ rest) (omega arith) ∙ take-take p n b (omega arith) in
+    let s : p + length (t ++ u) ≡ n + length u = omega (arith, length-append t u) in
+    rw (e, put_over (front ++ (u ++ rest)) p t (omega arith), put_over b p (t ++ u) (omega arith), f, drop_at front (u ++ rest) n lf, s)
+    (simp append_assoc)
+
 -- a text and then another from its end on are the two in a row
 pub then_written : {b m a : List ℕ} {p e e' : ℕ} {t u : List ℕ} → Written b p t m e → Written m e u a e' → Written b p (t ++ u) a e'
 then_written {b} {m} {a} {p} {e} {e'} {t} {u} v w =
@@ -57,7 +72,8 @@ then_written {b} {m} {a} {p} {e} {e'} {t} {u} v w =
       room = omega arith;
     }
 
-both_if_room : {b m a : List ℕ} {p e e' : ℕ} {t u : List ℕ} → WrittenIfRoom b p t m e → WrittenIfRoom m e u a e' → WrittenIfRoom b p (t ++ u) a e'
+-- and so they are where it is known of each only if there is room for it
+pub both_if_room : {b m a : List ℕ} {p e e' : ℕ} {t u : List ℕ} → WrittenIfRoom b p t m e → WrittenIfRoom m e u a e' → WrittenIfRoom b p (t ++ u) a e'
 both_if_room {t = t} {u = u} v w h =
     let long = length-append t u in
     let first = v (omega arith) in

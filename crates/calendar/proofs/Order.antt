@@ -3,7 +3,7 @@
 use Rattle.std.proofs.Common.{ℕ, ◌<◌, ◌≡◌, refl, true, false, arith, ltb, Some}
 use Rattle.std.proofs.lemmas.Cmp.{on_total, then_total, nat_cmp_total}
 use Rattle.std.specs.Cmp.{IsTotalOrder, Some-then}
-use Rattle.std.specs.Ordering.{nat_cmp, ordering_then, is_lt}
+use Rattle.std.specs.Ordering.{nat_cmp, ordering_then}
 use Rattle.std.specs.declared.cmp.Ordering.{Ordering}
 use Rattle.std.specs.declared.cmp.Ordering.TheVariants.{Less}
 use Rattle.calendar.specs.declared.Date.{Date}
@@ -13,6 +13,12 @@ use Rattle.calendar.specs.Dates.{rank, date_cmp, before}
 pub record Bytes (d : Date) : Type 0 where
   pub month : d.month < 256
   pub day : d.day < 256
+
+pub earlier_year : (d e : Date) → d.year < e.year → before d e ≡ true
+earlier_year d e h = grind arith
+
+pub later_year : (d e : Date) → e.year < d.year → before d e ≡ false
+later_year d e h = grind arith
 
 -- any two dates can be compared
 order : Date → Date → Ordering
@@ -29,19 +35,10 @@ unfolding order
 order_total = then_total (on_total (λ d. d.year) nat_cmp_total) (then_total (on_total (λ d. d.month) nat_cmp_total) (on_total (λ d. d.day) nat_cmp_total))
 
 less : (d e : Date) → before d e ≡ true → order d e ≡ Less
-less d e h = go (order d e) (rw (compared d e) at h)
-  where
-    go : (o : Ordering) → is_lt o ≡ true → o ≡ Less
-    go o p = grind arith
+less d e h = grind (arith, compared d e)
 
 pub before_transitive : (d e f : Date) → before d e ≡ true → before e f ≡ true → before d f ≡ true
 before_transitive d e f p q = rw (compared d f, order_total.trans d e f (less d e p) (less e f q)) refl
-
-pub earlier_year : (d e : Date) → d.year < e.year → before d e ≡ true
-earlier_year d e h = grind arith
-
-pub later_year : (d e : Date) → e.year < d.year → before d e ≡ false
-later_year d e h = grind arith
 
 -- of dates whose month and day are bytes the order is that of their ranks
 pub before_by_rank : (d e : Date) → Bytes d → Bytes e → before d e ≡ ltb (rank d) (rank e)

@@ -1,4 +1,5 @@
 pub mod Entries
+pub mod Codes
 pub mod RowsOfKinds
 pub mod PastCount
 pub mod Transfers

@@ -100,6 +100,25 @@ impl Rules {
             || (!self.modification && line.modification != 0)
             || (1 <= place && (line.additional != 0 || line.dependant != 0))
     }
+
+    /// What a line at a place, from 0, breaks in a case of these rules with these flags and this count. Past the count nearly every line
+    /// is zeros and breaks nothing, so it is not tested further. Flags and count, and not a `RuledCase`: any rules are answered for.
+    #[tactic(auto, using(crate::proofs::PastCount::range_within, crate::proofs::PastCount::range_past), unfolding(crate::specs::Form::line_reserved_fault))]
+    pub fn faults_of_line(&self, flags: u8, count: u8, place: usize, line: &Line) -> Faults
+        ensures { result ≡ line_faults self.now flags count place line.now }
+    {
+        if place < usize::from(count) {
+            return Faults {
+                reserved: self.is_reserved_filled(flags, place, line),
+                range: line.has_amount_too_large() || (self.dated && !line.date.is_real()),
+            };
+        }
+        let filled = line.is_filled();
+        Faults {
+            reserved: filled,
+            range: filled && line.has_amount_too_large(),
+        }
+    }
 }
 
 impl Case {
@@ -113,25 +132,13 @@ impl Case {
 }
 
 impl RuledCase<'_> {
-    /// What a line at a place, from 0, breaks in a case of this kind with these flags and this count. Past the count nearly every line is
-    /// zeros and breaks nothing, so it is not tested further.
-    #[tactic(auto, using(crate::proofs::PastCount::range_within, crate::proofs::PastCount::range_past), unfolding(crate::specs::Form::line_reserved_fault))]
+    /// What a line at a place, from 0, breaks in a case of this kind with these flags and this count.
     pub fn faults_of_line(&self, place: usize, line: &Line) -> Faults
         ensures { let c = self.now.case.now in
             result ≡ line_faults self.now.rules c.flags c.count place line.now }
     {
         let RuledCase { case, rules, .. } = self;
-        if place < usize::from(case.count) {
-            return Faults {
-                reserved: rules.is_reserved_filled(case.flags, place, line),
-                range: line.has_amount_too_large() || (rules.dated && !line.date.is_real()),
-            };
-        }
-        let filled = line.is_filled();
-        Faults {
-            reserved: filled,
-            range: filled && line.has_amount_too_large(),
-        }
+        rules.faults_of_line(case.flags, case.count, place, line)
     }
 
     // What the lines of the case break.

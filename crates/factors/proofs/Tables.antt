@@ -1,17 +1,17 @@
 -- The tables' counts and ranges: one test that antt computes over a whole table, and what follows of every row found.
 -- Assumes nothing.
-use Rattle.std.proofs.Common.{ℕ, zero, suc, ◌+◌, ◌-◌, ◌≤◌, ◌<◌, arith, Bool, true, false, ◌&&◌, if◌then◌else◌, List, [], ◌∷◌, slice_get, Option, Some, None, ◌≡◌, refl, sym, eqb, leb, length, get_or, ◌++◌, ltb, le-leb, leb-true}
+use Rattle.std.proofs.Common.{ℕ, zero, suc, ◌+◌, ◌-◌, ◌≤◌, ◌<◌, arith, Bool, true, false, ◌&&◌, if◌then◌else◌, List, [], ◌∷◌, slice_get, Option, Some, None, ◌≡◌, refl, sym, eqb, leb, length, get_or, ◌++◌, ltb, cond, ap, le-leb, leb-true}
 use Rattle.std.proofs.Math.Bool.{and-eq-true_iff}
 use Rattle.std.proofs.Math.Nat.{sub-zero}
-use Rattle.std.proofs.lemmas.Bool.{ltb-true, ltb-false}
-use Rattle.std.proofs.lemmas.Option.{get_or_from_slice_get}
+use Rattle.std.proofs.lemmas.Bool.{lt-leb, ltb-true, ltb-false}
+use Rattle.std.proofs.lemmas.Option.{get_or_from_slice_get, slice_get-get_or, slice_get_past, slice_get_within}
 use Rattle.std.specs.Option.{option_map}
 use Rattle.std.specs.List.{list_all}
 use Rattle.numbers.proofs.Lists.{every_at}
 use Rattle.factors.specs.declared.Factors.{Factors}
 use Rattle.factors.specs.declared.Table.{Table}
 use Rattle.factors.specs.declared.Table.TheVariants.{Section1995, Section2008, Scheme2015, NoTable}
-use Rattle.factors.specs.Rows.{four_columns, two_columns, found, Small}
+use Rattle.factors.specs.Rows.{four_columns, two_columns, found, row_numbers, Small}
 use Rattle.factors.specs.Tables.{section1995_table, section2008_men_table, section2008_women_below60_table, section2008_women_from60_table, scheme2015_table, row_at, row_for, section2008_women_row, row_in}
 
 abbrev in_range : ℕ → Bool
@@ -51,6 +51,39 @@ found_small columns small first rows width table fit key = by_key (leb first key
     by_key : (within : Bool) → Small (found (option_map columns (if within then slice_get table (key - first) else None)))
     by_key true = by_row (slice_get table (key - first)) refl
     by_key false = omega arith
+
+-- a key within the table finds its row; one below the first, or past the last, none. No proof cites these four laws; docs/PORT.md names
+-- the first three.
+module _ (columns : List ℕ → Factors) (first : ℕ) (table : List (List ℕ)) (key : ℕ) where
+  pub row_within : {f : Factors} → first ≤ key → key - first < length table → f ≡ columns (get_or table (key - first) []) → Some f ≡ row_at columns first table key
+  unfolding row_at
+  row_within p q e = rw (le-leb first key p, slice_get-get_or table (key - first) [] q, e)
+
+  pub row_below : key < first → None ≡ row_at columns first table key
+  unfolding row_at
+  row_below p = rw (lt-leb first key p)
+
+  pub row_past : first ≤ key → length table ≤ key - first → None ≡ row_at columns first table key
+  unfolding row_at
+  row_past p q = rw (le-leb first key p, slice_get_past table (key - first) q)
+
+  -- so a row is found by its place in the table
+  pub row_by_place : row_at columns first table key ≡ cond (leb first key && ltb (key - first) (length table)) (Some (columns (get_or table (key - first) []))) None
+  unfolding row_at
+  row_by_place = by_key (leb first key)
+    where
+      by_place :
+          (row : Option (List ℕ)) (within : Bool) → slice_get table (key - first) ≡ row → ltb (key - first) (length table) ≡ within →
+          option_map columns row ≡ cond within (Some (columns (get_or table (key - first) []))) None
+      by_place None false e h = refl
+      by_place None true e h = cc (e, slice_get-get_or table (key - first) [] (ltb-true (key - first) (length table) h))
+      by_place (Some row) true e h = rw (get_or_from_slice_get table (key - first) row [] e)
+      by_place (Some row) false e h = absurd (omega (arith, slice_get_within table (key - first) row e, ltb-false (key - first) (length table) h))
+
+      by_key :
+          (within : Bool) → option_map columns (if within then slice_get table (key - first) else None) ≡ cond (within && ltb (key - first) (length table)) (Some (columns (get_or table (key - first) []))) None
+      by_key true = by_place (slice_get table (key - first)) (ltb (key - first) (length table)) refl refl
+      by_key false = refl
 
 small_four : (row : List ℕ) → ((j : ℕ) → get_or row j 0 ≤ 9999) → Small (four_columns row)
 small_four row at = omega (arith, at 0, at 1, at 2, at 3)
@@ -113,3 +146,7 @@ small_row Section1995 sex age ahead = found_small four_columns small_four 22 38 
 small_row Section2008 sex age ahead = rw (either_sex sex age ahead) (found_small four_columns small_four 18 47 4 section2008_men_table refl age)
 small_row Scheme2015 sex age ahead = found_small two_columns small_two 1 50 2 scheme2015_table refl ahead
 small_row NoTable sex age ahead = omega arith
+
+-- rows that are the same are so in numbers; no proof cites it, docs/PORT.md names it
+pub and_numbers : {r s : Option Factors} → r ≡ s → (r ≡ s) × (row_numbers r ≡ row_numbers s)
+and_numbers e = (e, ap row_numbers e)

@@ -1,7 +1,8 @@
 -- What a test over a list says of each member.
 -- Assumes nothing.
-use Rattle.std.proofs.Common.{ℕ, zero, suc, Bool, true, false, not, List, [], ◌∷◌, ◌≡◌, refl, get_or}
+use Rattle.std.proofs.Common.{ℕ, zero, suc, ◌-◌, ◌≤◌, ◌<◌, Bool, true, false, not, ◌||◌, List, [], ◌∷◌, ◌≡◌, refl, sym, ap, ◌∙◌, arith, length, drop, get_or, drop-cons}
 use Rattle.std.proofs.Math.Bool.{and-eq-true_iff, false≢true}
+use Rattle.std.proofs.Math.Seq.{drop-length}
 use Rattle.std.specs.List.{list_all}
 use Rattle.std.proofs.lemmas.Bool.{not-false}
 use Rattle.numbers.specs.Lists.{any, Each}
@@ -42,6 +43,15 @@ of_listed d t x (y ∷ ys) e h = go (d x y) e (of_listed d t x ys)
     go : (s : Dec (x ≡ y)) → or_if s (listed d x ys) ≡ true → (listed d x ys ≡ true → list_all t ys ≡ true → t x ≡ true) → t x ≡ true
     go (yes p) e rest = rw p both.0
     go (no q) e rest = rest e both.1
+
+-- a test over a list from its end to its start: of none, and of one member more; no proof cites these, docs/PORT.md names them
+pub any_past : (t : ℕ → Bool) (xs : List ℕ) → false ≡ any t (drop (length xs) xs)
+any_past t xs = rw (drop-length xs)
+
+pub any_back : (t : ℕ → Bool) (xs : List ℕ) (i : ℕ) → 0 < i → i ≤ length xs → (t (get_or xs (i - 1) 0) || any t (drop i xs)) ≡ any t (drop (i - 1) xs)
+any_back t xs i p h =
+    let e : i ≡ suc (i - 1) = omega arith in
+    ap (λ (n : ℕ). t (get_or xs (i - 1) 0) || any t (drop n xs)) e ∙ sym (ap (any t) (drop-cons xs (i - 1) 0 (omega arith)))
 
 -- where a test holds of every member, what it gives holds at every place, if it holds of what stands for a place past the end
 pub every_at : {A : Type 0} {P : A → Type 0} (t : A → Bool) (xs : List A) (d : A) → ((x : A) → t x ≡ true → P x) → P d → list_all t xs ≡ true → (i : ℕ) → P (get_or xs i d)

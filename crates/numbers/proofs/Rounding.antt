@@ -1,6 +1,6 @@
 -- The laws of rounding: it keeps the order, and what it gives is never further off than half a unit.
 -- Assumes nothing.
-use Rattle.std.proofs.Common.{ℕ, ◌+◌, ◌*◌, ◌/◌, ◌%◌, ◌≤◌, ◌<◌, div-mul-le_self, le-div_iff_mul-le, le_trans, mul_assoc, add-mul, one-mul, div-add-mod', arith, lit<, ◌≡◌}
+use Rattle.std.proofs.Common.{ℕ, ◌+◌, ◌*◌, ◌/◌, ◌%◌, ◌≤◌, ◌<◌, div-mul-le_self, le-div_iff_mul-le, le_trans, mul-le-mul_left, mul_assoc, add-mul, one-mul, div-add-mod', arith, lit<, ◌≡◌}
 use Rattle.std.proofs.Math.Nat.{div-zero, lt-div-mul-add, mul-div-mul_right, div-eq_of_lt-le}
 use Rattle.numbers.specs.Rounding.{nearest, Within}
 
@@ -46,3 +46,8 @@ module _ (d n : ℕ) (p : 0 < d) where
   pub nearest_down : n % d * 2 < d → nearest d n ≡ n / d
   unfolding nearest
   nearest_down h = div-eq_of_lt-le (d * 2) (omega (arith, whole)) (rw (add-mul, one-mul) (omega (arith, whole)))
+
+  -- and one unit more than the whole ones, where half a unit or more lies over them, is no more than n; no proof cites it, docs/PORT.md
+  -- names it
+  pub up_fits : d ≤ n % d * 2 → n / d + 1 ≤ n
+  up_fits h = omega (arith, div-add-mod' n d, mul-le-mul_left (n / d) p)

@@ -4,8 +4,9 @@ use Rattle.std.proofs.Common.{ap, ℕ, Bool, true, false, cond, ◌&&◌, ◌||�
 use Rattle.std.specs.Prelude.{Result, IsErrAnd}
 use Rattle.std.specs.Result.{result_and}
 use Rattle.refusals.specs.Refusals.{number_of}
-use Rattle.refusals.specs.Tests.{Test, first, NoneOf, Verdict}
+use Rattle.refusals.specs.Tests.{Test, first, NoneOf, Verdict, verdict_number}
 use Rattle.refusals.specs.declared.Refusal.{Refusal}
+use Rattle.refusals.proofs.Naming.{numbered}
 
 -- the first of two lists joined
 pub first_append : (a b : List Test) → first (a ++ b) ≡ result_and (first a) (first b)
@@ -73,6 +74,13 @@ module _ (a b : List Test) (s t : Test) where
   pub first_swap_both : NoneOf a → s.applies ≡ true → t.applies ≡ true
       → (first (a ++ (s ∷ t ∷ b)) ≡ Err s.refusal) × (first (a ++ (t ∷ s ∷ b)) ≡ Err t.refusal)
   first_swap_both none p q = (first_past a (s ∷ t ∷ b) none ∙ rw p, first_past a (t ∷ s ∷ b) none ∙ rw q)
+
+-- what earlier tests found, else later ones, and the same in numbers, since no refusal has number 0; no proof cites it, docs/PORT.md
+-- names it
+pub or_else_lem : (v w : Verdict) {r : Verdict} → r ≡ result_and v w
+    → (r ≡ result_and v w) × (verdict_number r ≡ cond (eqb (verdict_number v) 0) (verdict_number w) (verdict_number v))
+or_else_lem (Ok u) w e = (e, ap verdict_number e)
+or_else_lem (Err why) w e = (e, ap verdict_number e ∙ rw (numbered why))
 
 -- Tests in a row by `?`, each of which answers an error or goes on.
 -- one that goes on does not apply

@@ -9,7 +9,7 @@ use Rattle.runs.proofs.Lines.{paid_few}
 pub left_sound : (t : Counts) → t.paid ≤ t.blocks → left t ≡ limit - t.blocks
 left_sound t h = rw (le-leb t.paid t.blocks h)
 
-left_unsound : (t : Counts) → t.blocks < t.paid → left t ≡ 0
+pub left_unsound : (t : Counts) → t.blocks < t.paid → left t ≡ 0
 left_unsound t h = rw (lt-leb t.paid t.blocks h)
 
 -- where something is left

@@ -1,6 +1,6 @@
 -- The part of a block that waits for its rest: moved to the start of a buffer, and no byte lost.
 -- Assumes nothing.
-use Rattle.std.proofs.Common.{ℕ, ◌+◌, ◌-◌, ◌<◌, ◌≤◌, min, List, ◌++◌, ◌≡◌, sym, ap, ◌∙◌, arith, length, take, drop, length-take, length-drop, take_at, take_all, take-take, take-append-drop, append_assoc, zero-add, ⊎_elim}
+use Rattle.std.proofs.Common.{ℕ, ◌+◌, ◌-◌, ◌%◌, ◌<◌, ◌≤◌, min, List, ◌++◌, ◌≡◌, refl, sym, ap, ◌∙◌, arith, length, take, drop, length-take, length-drop, take_at, take_all, take-take, take-append-drop, append_assoc, zero-add, ⊎_elim}
 use Rattle.std.specs.List.{copy_within}
 use Rattle.std.proofs.Math.Seq.{drop-append-le}
 use Rattle.std.proofs.lemmas.Bool.{cases_lt}
@@ -22,6 +22,15 @@ taken_few Open n = (omega arith, omega arith)
 taken_few Ended n = (omega arith, omega arith)
 taken_few Failed n = (omega arith, omega arith)
 
+-- where the file has not ended, the part that waits is as long as what is left of the bytes that came after whole blocks; no proof cites
+-- it, docs/PORT.md names it
+pub length_last : (t : Counts) (input : List ℕ) (source : Source) → (source ≡ Ended → ⊥)
+    → length (waiting_part t input source) ≡ length (came t input) % 512
+unfolding waiting_part
+length_last t input Open more = simp (length-take, length-drop) (omega arith)
+length_last t input Ended more = absurd (more refl)
+length_last t input Failed more = simp (length-take, length-drop) (omega arith)
+
 -- as many bytes as came
 pub take_came : (t : Counts) (input : List ℕ) (end : ℕ) → end ≡ min (length input) (wanted_after t) → take end input ≡ came t input
 take_came t input end e =
@@ -38,14 +47,18 @@ part_kept input part end held low room =
     append_assoc part (drop held (take end input)) (drop end input)
     ∙ ap (λ l. part ++ l) (sym (drop-append-le held (take end input) (drop end input) long) ∙ ap (drop held) (take-append-drop end input))
 
--- what a step takes, and the part that waits at the start of the buffer, are together all the bytes that came: none is lost or counted
--- twice
+-- what a step takes, and the part that waits, are together all the bytes that came
+all_kept : (t : Counts) (input : List ℕ) (source : Source) → chunk t input source ++ waiting_part t input source ≡ came t input
+unfolding chunk waiting_part
+all_kept t input source =
+    let k : ℕ = bytes_taken source (length (came t input)) in
+    let low : k ≤ wanted_after t = omega (arith, length-take (wanted_after t) input, taken_few source (length (came t input))) in
+    ap (λ l. l ++ drop k (came t input)) (sym (take-take k (wanted_after t) input low)) ∙ take-append-drop k (came t input)
+
+-- so they are where the part that waits stands at the start of the buffer: none is lost or counted twice
 pub none_lost : (t : Counts) (input : List ℕ) (source : Source) {held : ℕ} {after : List ℕ}
     → held ≡ length (waiting_part t input source) → after ≡ waiting_part t input source ++ drop held input
     → chunk t input source ++ take held after ≡ came t input
-unfolding chunk waiting_part
 none_lost t input source {held} {after} e a =
-    let k : ℕ = bytes_taken source (length (came t input)) in
-    let low : k ≤ wanted_after t = omega (arith, length-take (wanted_after t) input, taken_few source (length (came t input))) in
     let front : take held after ≡ waiting_part t input source = rw a (take_at (waiting_part t input source) _ held (sym e)) in
-    rw front (ap (λ l. l ++ drop k (came t input)) (sym (take-take k (wanted_after t) input low)) ∙ take-append-drop k (came t input))
+    rw front (all_kept t input source)

@@ -1,4 +1,5 @@
 pub mod Ranges
+pub mod Signed
 pub mod Carried
 pub mod Settled
 pub mod Stages
