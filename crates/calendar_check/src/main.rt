@@ -23,17 +23,20 @@ fn print_pair(rt: &impl Print, place: u64, d: Date, e: Date) -> io::Result<()> {
     }
 }
 
-fn read_date<R: Read>(input: &mut R) -> io::Result<Date> {
-    let mut bytes = [0u8; 4];
+// By one read: standard input has no buffer of its own.
+fn read_pair<R: Read>(input: &mut R) -> io::Result<(Date, Date)> {
+    let mut bytes = [0u8; 8];
     input.read_exact(&mut bytes)?;
-    Ok(Date::from(bytes))
+    let [a, b, c, d, e, f, g, h] = bytes;
+    Ok((Date::from([a, b, c, d]), Date::from([e, f, g, h])))
 }
 
 // A loop of its own, as in the other check programs: each reads a record of its own kind, and a crate for the loop would be longer.
 fn print_pairs<R: Read>(rt: &impl Print, input: &mut R) -> io::Result<()> {
     // Every loop is proved to end, hence a limit.
     for place in 1..1_000_000 {
-        print_pair(rt, place, read_date(input)?, read_date(input)?)?;
+        let (first, second) = read_pair(input)?;
+        print_pair(rt, place, first, second)?;
     }
     Ok(())
 }

@@ -13,10 +13,10 @@ struct Transcribed {
     year: u16,
     // The byte after the year of a line, and what the report calls its rows: m and f where there is a table for each sex.
     rows: &'static [(u8, &'static str)],
-    // What the report calls its keys, the first of them, and the last that is looked up.
+    // What the report calls its keys, the first of them, and the end of those that are looked up, from 0 on.
     keys: &'static str,
     first: u32,
-    last: u32,
+    end: u32,
     // Keys on either side of it.
     outside: [u32; 4],
 }
@@ -28,7 +28,7 @@ static TABLES: [Transcribed; 3] = [
         rows: &[(b'm', "rows for men"), (b'f', "rows for women")],
         keys: "ages",
         first: 22,
-        last: 65535,
+        end: 65536,
         outside: [0, 21, 60, 65535],
     },
     Transcribed {
@@ -37,7 +37,7 @@ static TABLES: [Transcribed; 3] = [
         rows: &[(b'm', "rows for men"), (b'f', "rows for women")],
         keys: "ages",
         first: 18,
-        last: 65535,
+        end: 65536,
         outside: [0, 17, 65, 65535],
     },
     Transcribed {
@@ -46,7 +46,7 @@ static TABLES: [Transcribed; 3] = [
         rows: &[(b' ', "rows")],
         keys: "years",
         first: 1,
-        last: 100000,
+        end: 100_001,
         outside: [0, 51, 52, 100000],
     },
 ];
@@ -161,7 +161,8 @@ fn check(rt: &impl Print, table: &Transcribed, text: &[u8]) -> io::Result<()> {
         }
     }
     println!(rt)?;
-    let found = (0..=table.last)
+    // Up to an end: with a last key in its place the whole run takes 2.9 times the instructions.
+    let found = (0..table.end)
         .filter(|&key| table.row(key).is_some())
         .count();
     println!(rt; "{year}: {found} {} have a row", table.keys)

@@ -71,9 +71,9 @@ fn value_file<R: Read, W: Write>(reader: &mut R, writer: &mut W) -> Result<(), F
 fn main(rt: HostRuntime) -> ExitCode {
     let outcome = match asked(&rt) {
         Request::Report => value_file(&mut rt.stdin(), &mut rt.stdout()),
-        Request::Help => rt.stdout().write_all(USAGE).map_err(Failure::Output),
+        Request::Help => write_whole(&mut rt.stdout(), USAGE).map_err(Failure::Output),
         Request::Version => write_version(&mut rt.stdout()).map_err(Failure::Output),
-        Request::Unknown => rt.stderr().write_all(USAGE).map_err(|_| Failure::Message),
+        Request::Unknown => write_whole(&mut rt.stderr(), USAGE).map_err(|_| Failure::Message),
     };
     match outcome {
         Ok(()) => ExitCode::SUCCESS,

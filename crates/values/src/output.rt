@@ -53,5 +53,5 @@ pub(crate) fn write_version<W: Write>(writer: &mut W) -> io::Result<()>
 {
     let mut line = [0u8; 32];
     let n = version::form_version(&mut line);
-    writer.write_all(&line[..n])
+    write_whole(writer, &line[..n])
 }

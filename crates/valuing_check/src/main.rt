@@ -5,80 +5,79 @@
 // others in hundredths of a penny) or the refusal. The fields are listed here once more, since no block is read.
 #![tactic(auto)]
 
-ghost use Rattle.std.specs.Prelude.{◌≤◌};
-
 use answers::{Items, Outcome};
 use calendar::Date;
 use cases::{Case, Line};
 use std::io;
 use std::io::{ErrorKind, Read};
+use std::slice::Iter;
+
+// 64 numbers.
+const RECORD_SIZE: usize = 512;
 
 // The low bytes of the next number, as many as its field has.
-fn read_field<const N: usize, R: Read>(input: &mut R) -> io::Result<[u8; N]>
-    requires { N ≤ 8 }
-{
-    let mut number = [0u8; 8];
-    input.read_exact(&mut number)?;
-    let mut field = [0u8; N];
-    field.copy_from_slice(&number[..N]);
-    Ok(field)
+fn field<const N: usize>(numbers: &mut Iter<'_, [u8; 8]>) -> Option<[u8; N]> {
+    numbers.next()?.first_chunk().copied()
 }
 
-fn read_date<R: Read>(input: &mut R) -> io::Result<Date> {
-    Ok(Date::from(read_field(input)?))
+fn date(numbers: &mut Iter<'_, [u8; 8]>) -> Option<Date> {
+    field(numbers).map(Date::from)
 }
 
-fn read_amount<R: Read>(input: &mut R) -> io::Result<u64> {
-    Ok(u64::from_le_bytes(read_field(input)?))
+fn amount(numbers: &mut Iter<'_, [u8; 8]>) -> Option<u64> {
+    field(numbers).map(u64::from_le_bytes)
 }
 
 // A line whose divorce debit is still to come.
-fn read_line<R: Read>(input: &mut R) -> io::Result<Line> {
-    Ok(Line {
-        date: read_date(input)?,
-        pension: read_amount(input)?,
-        additional: read_amount(input)?,
-        survivor: read_amount(input)?,
-        dependant: read_amount(input)?,
-        lump: read_amount(input)?,
-        modification: read_amount(input)?,
-        scheme_pays: read_amount(input)?,
-        scheme_pays_lump: read_amount(input)?,
+fn line(numbers: &mut Iter<'_, [u8; 8]>) -> Option<Line> {
+    Some(Line {
+        date: date(numbers)?,
+        pension: amount(numbers)?,
+        additional: amount(numbers)?,
+        survivor: amount(numbers)?,
+        dependant: amount(numbers)?,
+        lump: amount(numbers)?,
+        modification: amount(numbers)?,
+        scheme_pays: amount(numbers)?,
+        scheme_pays_lump: amount(numbers)?,
         debit_pension: 0,
         debit_survivor: 0,
         debit_lump: 0,
     })
 }
 
-fn read_case<R: Read>(input: &mut R) -> io::Result<Case> {
+// None where a number is missing, of which a whole record has none.
+fn case_of(record: &[u8; RECORD_SIZE]) -> Option<Case> {
+    let (all, _) = record.as_chunks();
+    let numbers = &mut all.iter();
     let mut case = Case {
-        kind: u16::from_le_bytes(read_field(input)?),
-        number: u32::from_le_bytes(read_field(input)?),
-        status: u8::from_le_bytes(read_field(input)?),
-        receiver: u8::from_le_bytes(read_field(input)?),
-        flags: u8::from_le_bytes(read_field(input)?),
-        count: u8::from_le_bytes(read_field(input)?),
-        service: u16::from_le_bytes(read_field(input)?),
-        sex: u8::from_le_bytes(read_field(input)?),
-        birth: read_date(input)?,
-        leaving: read_date(input)?,
-        guarantee: read_date(input)?,
-        state_pension: read_date(input)?,
-        revaluation: u32::from_le_bytes(read_field(input)?),
-        avc: read_amount(input)?,
-        transfer: read_amount(input)?,
-        contributions: read_amount(input)?,
+        kind: u16::from_le_bytes(field(numbers)?),
+        number: u32::from_le_bytes(field(numbers)?),
+        status: u8::from_le_bytes(field(numbers)?),
+        receiver: u8::from_le_bytes(field(numbers)?),
+        flags: u8::from_le_bytes(field(numbers)?),
+        count: u8::from_le_bytes(field(numbers)?),
+        service: u16::from_le_bytes(field(numbers)?),
+        sex: u8::from_le_bytes(field(numbers)?),
+        birth: date(numbers)?,
+        leaving: date(numbers)?,
+        guarantee: date(numbers)?,
+        state_pension: date(numbers)?,
+        revaluation: u32::from_le_bytes(field(numbers)?),
+        avc: amount(numbers)?,
+        transfer: amount(numbers)?,
+        contributions: amount(numbers)?,
         lines: [Line::default(); 4],
     };
-    for line in &mut case.lines {
-        *line = read_line(input)?;
+    for place in &mut case.lines {
+        *place = line(numbers)?;
     }
-    for line in &mut case.lines {
-        line.debit_pension = read_amount(input)?;
-        line.debit_survivor = read_amount(input)?;
-        line.debit_lump = read_amount(input)?;
+    for place in &mut case.lines {
+        place.debit_pension = amount(numbers)?;
+        place.debit_survivor = amount(numbers)?;
+        place.debit_lump = amount(numbers)?;
     }
-    Ok(case)
+    Some(case)
 }
 
 fn print_case(rt: &impl Print, place: u64, case: &Case) -> io::Result<()> {
@@ -104,9 +103,14 @@ fn print_case(rt: &impl Print, place: u64, case: &Case) -> io::Result<()> {
 
 // A loop of its own, as in calendar_check.
 fn print_cases<R: Read>(rt: &impl Print, input: &mut R) -> io::Result<()> {
+    let mut record = [0u8; RECORD_SIZE];
     // Every loop is proved to end, hence a limit.
     for place in 1..1_000_000 {
-        print_case(rt, place, &read_case(input)?)?;
+        // By one read, and not one for each number: standard input has no buffer of its own.
+        input.read_exact(&mut record)?;
+        if let Some(case) = case_of(&record) {
+            print_case(rt, place, &case)?;
+        }
     }
     Ok(())
 }
