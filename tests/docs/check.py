@@ -2,8 +2,8 @@
 """Checks what the pages cite: check.py [PAGE...], all pages without arguments.
 
 Every page:
-- A relative link points to a file, and its #anchor to a heading there. Of docs/CHANGES.md, docs/PORT.md and
-  docs/DESIGN-PASS.md, which tell history, this is all.
+- A relative link points to a file, and its #anchor to a heading there. Of docs/CHANGES.md, docs/PORT.md, docs/DESIGN-PASS.md and
+  docs/LOOK-BACK.md, which tell history, this is all.
 - A path in code font exists: from the top of the repository or from crates/; one that starts with a crate's folder (specs/, src/),
   in the crate or folder that stands last before it in the paragraph or row, or in any crate; a bare file name, anywhere. crate/edit is
   an edit in the crate's must-fail/. What the build makes (target/...), an absolute path and one with a placeholder (NAME, $, <, ~)
@@ -25,7 +25,7 @@ from declared import MADE, names_in, public_functions
 
 TOP = pathlib.Path.cwd()
 STRICT = {"docs/MAP.md", "docs/TRUST.md", "docs/GLOSSARY.md"}
-LINKS_ONLY = {"docs/CHANGES.md", "docs/PORT.md", "docs/DESIGN-PASS.md"}
+LINKS_ONLY = {"docs/CHANGES.md", "docs/PORT.md", "docs/DESIGN-PASS.md", "docs/LOOK-BACK.md"}
 PUBLIC = "## Every public function"
 NEEDED = STRICT | LINKS_ONLY | {"README.md", "CONTRIBUTING.md"}
 SOURCES = ("crates", "tests", "bench", "include", "examples", "bin", ".ci", "Makefile")
